@@ -1,0 +1,4 @@
+pub mod Told
+pub mod Sink
+pub mod SinkMem
+pub mod SinkReal
