@@ -1,1 +1,2 @@
+pub mod FilesOf
 pub mod Taken
