@@ -97,3 +97,7 @@ same_length f (x ∷ xs) = ap suc (same_length f xs)
 -- there are as many files as entries
 pub len-files_of : (es : Entries) → IsStrictlySortedBy string_cmp (keys_of es) → fin.len (files_of es) ≡ length es
 len-files_of es order = fin.len-entries (files_of es) ∙ ap length (entries_kept (map file_of es) (sorted es order)) ∙ same_length file_of es
+
+-- what a look-up of the map finds is what the files have
+pub found_in : (m : BTreeMap (String Global) (Vec ℕ Global)) (files : Files) (path : List ℕ) (found : Option (Vec ℕ Global)) → files_of m.entries ≡ files → found ≡ get_by_text m path → option_map (λ v. v.items) found ≡ fin.get files path
+found_in m files path found same is = ap (option_map (λ v. v.items)) is ∙ sym (get-files_of m path) ∙ ap (λ f. fin.get f path) same

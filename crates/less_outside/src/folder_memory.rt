@@ -1,10 +1,11 @@
 // A folder in memory that fails at the calls of a list.
-ghost use Rattle.std.specs.Prelude.{◌≡◌, ◌↔◌, Bool, IsTrue, Some, IfOk, IfSome, OnOk, OnErr, IsErrOf, is_ok, filter, map, string_bytes};
+ghost use Rattle.std.specs.Prelude.{◌≡◌, ◌↔◌, Bool, IsTrue, Some, IfOk, IfSome, OnOk, OnErr, IsErrOf, is_ok, filter, map, nat_eq, string_bytes};
+ghost use Rattle.std.specs.List.{starts_with};
 ghost use Rattle.std.specs.String.{string_cmp};
 ghost use Rattle.std.specs.Option.{option_copied};
 ghost use Rattle.std.specs.BTreeMap.{keys, IsOrdered};
 ghost use Rattle.std.specs.FinMap as fin;
-ghost use Rattle.less_outside.specs.Files.{is_below, paths_below};
+ghost use Rattle.less_outside.specs.Files.{paths_below};
 ghost use Rattle.less_outside.specs.Folder.{IsFound, HasFolderCause};
 ghost use Rattle.less_outside.specs.FolderMem.{FolderState, files_of, last_files, new_folder, is_failing, called, after_read, after_write};
 
@@ -93,19 +94,17 @@ fn by_path(
     Ok(map)
 }
 
-fn paths_of(
+fn paths_with_front(
     alloc: Global,
     files: &BTreeMap<String, Vec<u8>>,
-    below: &str,
+    front: &[u8],
 ) -> Result<Vec<String>, AllocError>
-    ensures paths { IfOk result (λ paths. map string_bytes paths.items ≡ filter (is_below below.now) (map string_bytes (keys files.now))) }
+    ensures paths { IfOk result (λ paths. map string_bytes paths.items ≡ filter (λ path. starts_with nat_eq path front.now) (map string_bytes (keys files.now))) }
     ensures ordered { OnOk result (IsOrdered string_cmp files.now) }
 {
-    let mut front = String::from_str(alloc, below)?;
-    front.push('/')?;
     let mut paths = Vec::new(alloc);
     for path in files.keys() {
-        if path.as_bytes().starts_with(front.as_bytes()) {
+        if path.as_bytes().starts_with(front) {
             paths.push(path.clone()?)?;
         }
     }
@@ -129,7 +128,9 @@ impl Folder for FolderMem {
             self.read_faults = self.read_faults.saturating_add(1);
             return Err(FolderFault::Failed);
         }
-        let paths = paths_of(alloc, &self.files, below)?;
+        let mut front = String::from_str(alloc, below)?;
+        front.push('/')?;
+        let paths = paths_with_front(alloc, &self.files, front.as_bytes())?;
         Ok(paths)
     }
 
@@ -146,7 +147,7 @@ impl Folder for FolderMem {
         match self.file(path) {
             None => Ok(Found::Absent),
             Some(bytes) if bytes.len() > max => Ok(Found::TooLong),
-            Some(bytes) => Ok(Found::Bytes(bytes.to_vec(alloc)?)),
+            Some(bytes) => Ok(Found::Bytes(Vec::from_slice(alloc, bytes)?)),
         }
     }
 
@@ -161,7 +162,7 @@ impl Folder for FolderMem {
             return Err(FolderFault::Failed);
         }
         let path = String::from_str(alloc, path)?;
-        let bytes = bytes.to_vec(alloc)?;
+        let bytes = Vec::from_slice(alloc, bytes)?;
         self.files.insert(path, bytes)?;
         Ok(())
     }

@@ -1,25 +1,31 @@
-use Rattle.std.proofs.Common.{rules, ◌≡◌, ◌↔◌, Bool, IsTrue, Some, IfOk, IfSome, OnOk, OnErr, IsErrOf, is_ok, filter, map, string_bytes, ℕ, ◌+◌, ◌-◌, ◌*◌, ◌<◌, ◌≤◌, length, ◌/◌, ◌%◌, true, false, nat_eq, nat_lt, List, [], ◌∷◌, ◌++◌, slice_index_or, slice_set, bit_and, bit_or, Fits, w8, w32, w64, Bor, MutBor}
-use Rattle.std.specs.String.{string_cmp}
-use Rattle.std.specs.Option.{option_copied}
-use Rattle.std.specs.BTreeMap.{keys, IsOrdered}
+use Rattle.std.proofs.Common.{◌≡◌, ◌∷◌, [], List, map, length, arith, string_bytes, refl, sym, ap, ◌∙◌}
 use Rattle.std.specs.FinMap as fin
-use Rattle.less_outside.specs.Files.{is_below, paths_below}
-use Rattle.less_outside.specs.Folder.{IsFound, HasFolderCause}
-use Rattle.less_outside.specs.FolderMem.{FolderState, files_of, last_files, new_folder, is_failing, called, after_read, after_write}
+use Rattle.std.proofs.lemmas.Grind.{fold-append}
+use Rattle.std.proofs.lemmas.Iterator.Adapters.{YieldsList-from_vec}
+use Rattle.std.proofs.lemmas.Iterator.Consumers.{YieldsList-end}
+use Rattle.less_outside.specs.FolderMem.{files_of, with_file, last_files}
+use Rattle.less_outside.proofs.FilesOf.{files_of-insert}
 use Rattle.less_outside.proofs.folder_memory.by_path.Goals as goal
 
--- src/folder_memory.rt:90:5
-pub loop-path-init : goal.loop-path-init
-loop-path-init c = ?
+same : {A : Type 0} (xs : List A) → map (λ x. x) xs ≡ xs
+same [] = refl
+same (x ∷ xs) = ap (λ l. x ∷ l) (same xs)
 
--- src/folder_memory.rt:90:5
-pub loop-path-preserved-in_ok-insert : goal.loop-path-preserved-in_ok-insert
-loop-path-preserved-in_ok-insert c = ?
-
--- src/folder_memory.rt:90:5
 pub loop-path-preserved : goal.loop-path-preserved
-loop-path-preserved c = ?
+loop-path-preserved c =
+    files_of-insert c.loop-path.map c.insert.new.self (string_bytes c.in-Some.path) c.in-Some.bytes c.in_ok-insert.ensures.updates
+    ∙ ap (λ files. fin.insert files (string_bytes c.in-Some.path) c.in-Some.bytes.items) c.loop-path.invariant
+    ∙ sym (fold-append with_file fin.empty c.loop-path.yielded ((c.in-Some.path, c.in-Some.bytes) ∷ []))
 
--- src/folder_memory.rt:83:1
+pub loop-path-preserved-in_ok-insert : goal.loop-path-preserved-in_ok-insert
+loop-path-preserved-in_ok-insert c =
+    files_of-insert c.loop-path.map c.insert.new.self (string_bytes c.in-Some.path) c.in-Some.bytes c.in_ok-insert.ensures.updates
+    ∙ ap (λ files. fin.insert files (string_bytes c.in-Some.path) c.in-Some.bytes.items) c.loop-path.invariant
+    ∙ sym (fold-append with_file fin.empty c.loop-path.yielded ((c.in-Some.path, c.in-Some.bytes) ∷ []))
+
 pub returns : goal.returns
-returns c = ?
+returns c =
+    let gives = c.into_iter-path-iterator.ensures.into_iter_gives in
+    let long : c.into_iter-path-iterator.result.rest.len ≡ length c.args.files.items = omega (arith, gives.1, c.args.files.ok) in
+    let all = YieldsList-end (YieldsList-from_vec {s = c.into_iter-path-iterator.result} c.args.files.items gives.0 long) c.loop-path.yielded c.loop-path.path-iterator c.loop-path.yielded_by c.next.result c.next.new.self c.in-None.is c.next.ensures.steps in
+    c.loop-path.invariant ∙ ap last_files (sym (same c.loop-path.yielded) ∙ all.0)

@@ -1,17 +1,12 @@
-use Rattle.std.proofs.Common.{rules, ◌≡◌, ◌↔◌, Bool, IsTrue, Some, IfOk, IfSome, OnOk, OnErr, IsErrOf, is_ok, filter, map, string_bytes, ℕ, ◌+◌, ◌-◌, ◌*◌, ◌<◌, ◌≤◌, length, ◌/◌, ◌%◌, true, false, nat_eq, nat_lt, List, [], ◌∷◌, ◌++◌, slice_index_or, slice_set, bit_and, bit_or, Fits, w8, w32, w64, Bor, MutBor}
-use Rattle.std.specs.String.{string_cmp}
+use Rattle.std.proofs.Common.{◌≡◌, Some, sym, ap, ◌∙◌}
 use Rattle.std.specs.Option.{option_copied}
-use Rattle.std.specs.BTreeMap.{keys, IsOrdered}
-use Rattle.std.specs.FinMap as fin
-use Rattle.less_outside.specs.Files.{is_below, paths_below}
-use Rattle.less_outside.specs.Folder.{IsFound, HasFolderCause}
-use Rattle.less_outside.specs.FolderMem.{FolderState, files_of, last_files, new_folder, is_failing, called, after_read, after_write}
+use Rattle.less_outside.proofs.FilesOf.{found_in}
 use Rattle.less_outside.proofs.folder_memory.FolderMem.file.Goals as goal
 
--- src/folder_memory.rt:56:5
 pub returns-in-Some : goal.returns-in-Some
-returns-in-Some c = ?
+returns-in-Some c =
+    let found = found_in c.self.inside.files c.args.self.now.files c.args.path.now _ (ap (λ s. s.files) c.self.view_is) (ap option_copied (sym c.in-Some.is) ∙ c.get.ensures.value) in
+    rw c.as_slice.ensures.value found
 
--- src/folder_memory.rt:56:5
 pub returns-in-None : goal.returns-in-None
-returns-in-None c = ?
+returns-in-None c = found_in c.self.inside.files c.args.self.now.files c.args.path.now _ (ap (λ s. s.files) c.self.view_is) (ap option_copied (sym c.in-None.is) ∙ c.get.ensures.value)

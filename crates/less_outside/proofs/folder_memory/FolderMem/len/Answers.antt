@@ -1,13 +1,7 @@
-use Rattle.std.proofs.Common.{rules, ◌≡◌, ◌↔◌, Bool, IsTrue, Some, IfOk, IfSome, OnOk, OnErr, IsErrOf, is_ok, filter, map, string_bytes, ℕ, ◌+◌, ◌-◌, ◌*◌, ◌<◌, ◌≤◌, length, ◌/◌, ◌%◌, true, false, nat_eq, nat_lt, List, [], ◌∷◌, ◌++◌, slice_index_or, slice_set, bit_and, bit_or, Fits, w8, w32, w64, Bor, MutBor}
-use Rattle.std.specs.String.{string_cmp}
-use Rattle.std.specs.Option.{option_copied}
-use Rattle.std.specs.BTreeMap.{keys, IsOrdered}
+use Rattle.std.proofs.Common.{sym, ap, ◌∙◌}
 use Rattle.std.specs.FinMap as fin
-use Rattle.less_outside.specs.Files.{is_below, paths_below}
-use Rattle.less_outside.specs.Folder.{IsFound, HasFolderCause}
-use Rattle.less_outside.specs.FolderMem.{FolderState, files_of, last_files, new_folder, is_failing, called, after_read, after_write}
+use Rattle.less_outside.proofs.FilesOf.{len-files_of}
 use Rattle.less_outside.proofs.folder_memory.FolderMem.len.Goals as goal
 
--- src/folder_memory.rt:66:5
 pub returns : goal.returns
-returns c = ?
+returns c = c.len.ensures.len ∙ sym (len-files_of c.self.inside.files.entries c.len.ensures.ordered) ∙ ap (λ s. fin.len s.files) c.self.view_is

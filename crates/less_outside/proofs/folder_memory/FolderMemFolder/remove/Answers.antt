@@ -1,13 +1,12 @@
-use Rattle.std.proofs.Common.{rules, ◌≡◌, ◌↔◌, Bool, IsTrue, Some, IfOk, IfSome, OnOk, OnErr, IsErrOf, is_ok, filter, map, string_bytes, ℕ, ◌+◌, ◌-◌, ◌*◌, ◌<◌, ◌≤◌, length, ◌/◌, ◌%◌, true, false, nat_eq, nat_lt, List, [], ◌∷◌, ◌++◌, slice_index_or, slice_set, bit_and, bit_or, Fits, w8, w32, w64, Bor, MutBor}
-use Rattle.std.specs.String.{string_cmp}
-use Rattle.std.specs.Option.{option_copied}
-use Rattle.std.specs.BTreeMap.{keys, IsOrdered}
+use Rattle.std.proofs.Common.{sym, ap, ◌∙◌}
 use Rattle.std.specs.FinMap as fin
-use Rattle.less_outside.specs.Files.{is_below, paths_below}
-use Rattle.less_outside.specs.Folder.{IsFound, HasFolderCause}
-use Rattle.less_outside.specs.FolderMem.{FolderState, files_of, last_files, new_folder, is_failing, called, after_read, after_write}
+use Rattle.less_outside.specs.FolderMem.{files_of}
+use Rattle.less_outside.proofs.Calls.{done_write}
+use Rattle.less_outside.proofs.FilesOf.{files_of-remove}
 use Rattle.less_outside.proofs.folder_memory.FolderMemFolder.remove.Goals as goal
 
--- src/folder_memory.rt:170:5
 pub returns-clause-after : goal.returns-clause-after
-returns-clause-after c = ?
+returns-clause-after c =
+    let counted = c.self.view_is ∙ c.begin.ensures.after in
+    let removed = files_of-remove c.self.inside.files c.remove.new.self c.args.path.now c.remove.ensures.updates in
+    done_write c.args.self.now _ _ (files_of c.remove.new.self.entries) counted (sym c.begin.ensures.fails ∙ c.if-begin.false) (removed ∙ ap (λ s. fin.remove s.files c.args.path.now) counted)
