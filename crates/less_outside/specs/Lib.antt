@@ -1,0 +1,7 @@
+pub mod Files
+pub mod Folder
+pub mod FolderMem
+pub mod Sink
+pub mod SinkMem
+pub mod SinkReal
+pub mod Told
