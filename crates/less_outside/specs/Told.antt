@@ -1,6 +1,5 @@
 -- What a call does to something that an object of the outside may tell.
-use Rattle.std.specs.Prelude.{◌≡◌, ℕ, ◌+◌, ◌-◌, ◌^◌, min, Bool, true, false, Option, None, Some, Result, Ok, Err, ⊤, List}
-use Rattle.std.specs.List.{list_any}
+use Rattle.std.specs.Prelude.{◌≡◌, ℕ, ◌+◌, ◌-◌, ◌^◌, min, Bool, true, false, Option, None, Some, ⊤}
 
 -- what was told before and what is told after stand in the relation; what was told stays told
 abbrev pub Changes : {A : Type 0} → Option A → Option A → (A → A → Type 0) → Type 0

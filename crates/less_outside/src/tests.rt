@@ -1,8 +1,7 @@
 use super::*;
 use std::alloc::{AllocError, Global};
-use std::process;
 use std::test::Fail;
-use std::fs;
+use std::{fs, process};
 
 fn text(alloc: Global, text: &str) -> Result<String, AllocError> {
     String::from_str(alloc, text)
@@ -16,7 +15,10 @@ fn three_files(alloc: Global, failing: Vec<u64>) -> Result<FolderMem, AllocError
         ("copies/guest.txt", "two"),
         ("copies/guest/b.php", "new"),
     ] {
-        files.push((text(alloc, path)?, Vec::from_slice(alloc, text(alloc, bytes)?.as_bytes())?))?;
+        files.push((
+            text(alloc, path)?,
+            Vec::from_slice(alloc, text(alloc, bytes)?.as_bytes())?,
+        ))?;
     }
     FolderMem::new(alloc, files, failing)
 }
@@ -86,8 +88,14 @@ fn a_call_that_fails_changes_no_file_and_raises_its_own_count(rt: HostRuntime) -
     assert!(rt; matches!(&listed, Err(FolderFault::Failed)));
     let read = folder.read(alloc, "copies/guest.txt", 9);
     assert!(rt; matches!(&read, Err(FolderFault::Failed)));
-    assert_eq!(rt; folder.write(alloc, "copies/guest.txt", b"x"), Err(FolderFault::Failed));
-    assert_eq!(rt; folder.remove(alloc, "copies/guest.txt"), Err(FolderFault::Failed));
+    assert_eq!(rt;
+        folder.write(alloc, "copies/guest.txt", b"x"),
+        Err(FolderFault::Failed)
+    );
+    assert_eq!(rt;
+        folder.remove(alloc, "copies/guest.txt"),
+        Err(FolderFault::Failed)
+    );
     assert_eq!(rt; folder.file("copies/guest.txt"), Some(b"two".as_slice()));
     assert_eq!(rt; folder.read_faults(), 2);
     assert_eq!(rt; folder.write_faults(), 2);
@@ -126,7 +134,10 @@ fn a_folder_of_the_system_lists_reads_writes_and_removes(rt: HostRuntime) -> Res
     assert_eq!(rt; folder.remove(alloc, "app/a.php"), Ok(()));
     let gone = folder.read(alloc, "app/a.php", 9);
     assert!(rt; matches!(&gone, Ok(Found::Absent)));
-    assert_eq!(rt; folder.write(alloc, "app.txt/c", b"x"), Err(FolderFault::Failed));
+    assert_eq!(rt;
+        folder.write(alloc, "app.txt/c", b"x"),
+        Err(FolderFault::Failed)
+    );
     assert_eq!(rt; folder.read_faults(), 0);
     assert_eq!(rt; folder.write_faults(), 1);
     fs::remove_dir_all(&rt, root.as_str())?;
