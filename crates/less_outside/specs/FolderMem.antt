@@ -1,5 +1,5 @@
 -- A folder in memory as a value, and what its calls make of it.
-use Rattle.std.specs.Prelude.{ℕ, Bool, true, false, ◌==◌, List, [], map, fold, if◌then◌else◌, String, string_bytes, Vec, refl}
+use Rattle.std.specs.Prelude.{ℕ, Bool, ◌==◌, List, map, fold, if◌then◌else◌, String, string_bytes, Vec, refl}
 use Rattle.std.specs.List.{list_any}
 use Rattle.std.specs.FinMap as fin
 use Rattle.std.specs.Coded.{Coded, code_by, coded×, coded_ℕ, coded_list}

@@ -1,5 +1,5 @@
--- What a call does to something that an object of the outside may tell.
-use Rattle.std.specs.Prelude.{◌≡◌, ℕ, ◌+◌, ◌-◌, ◌^◌, min, Bool, true, false, Option, None, Some, Result, Ok, Err, ⊤, List}
+-- What a call does to something that an object of the outside may tell, and to its counts.
+use Rattle.std.specs.Prelude.{◌≡◌, ℕ, ◌+◌, ◌-◌, ◌^◌, ◌==◌, min, Bool, true, false, List, Option, None, Some, ⊤}
 use Rattle.std.specs.List.{list_any}
 
 -- what was told before and what is told after stand in the relation; what was told stays told
@@ -20,3 +20,7 @@ next count = min (count + 1) (2 ^ 64 - 1)
 abbrev pub next_on : Bool → ℕ → ℕ
 next_on true count = next count
 next_on false count = count
+
+-- the number of a call is one of those that fail
+abbrev pub is_listed : List ℕ → ℕ → Bool
+is_listed failing call = list_any (λ number. number == call) failing

@@ -64,7 +64,8 @@ impl Sink for SinkMem {
         ensures after { self.new ≡ after_write self.old bytes.now }
         ensures cause { HasCause self.old.faults self.new.faults result }
     {
-        let fails = self.failing.contains(&self.calls) || bytes.len() > self.room - self.bytes.len();
+        let fails = self.failing.contains(&self.calls)
+            || bytes.len() > self.room - self.bytes.len();
         self.calls = self.calls.saturating_add(1);
         if fails || self.bytes.extend_from_slice(bytes).is_err() {
             self.faults = self.faults.saturating_add(1);

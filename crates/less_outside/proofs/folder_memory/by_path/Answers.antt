@@ -3,7 +3,7 @@ use Rattle.std.specs.FinMap as fin
 use Rattle.std.proofs.lemmas.Grind.{fold-append}
 use Rattle.std.proofs.lemmas.Iterator.Adapters.{YieldsList-from_vec}
 use Rattle.std.proofs.lemmas.Iterator.Consumers.{YieldsList-end}
-use Rattle.less_outside.specs.FolderMem.{files_of, with_file, last_files}
+use Rattle.less_outside.specs.FolderMem.{with_file, last_files}
 use Rattle.less_outside.proofs.FilesOf.{files_of-insert}
 use Rattle.less_outside.proofs.folder_memory.by_path.Goals as goal
 

@@ -1,4 +1,4 @@
-use Rattle.std.proofs.Common.{◌≡◌, Some, sym, ap, ◌∙◌}
+use Rattle.std.proofs.Common.{sym, ap, ◌∙◌}
 use Rattle.std.specs.Option.{option_copied}
 use Rattle.less_outside.proofs.FilesOf.{found_in}
 use Rattle.less_outside.proofs.folder_memory.FolderMem.file.Goals as goal
