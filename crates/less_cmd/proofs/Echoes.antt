@@ -1,5 +1,5 @@
 -- How an echo is run text by text.
-use Rattle.std.proofs.Common.{◌≡◌, ℕ, zero, suc, ◌+◌, ◌-◌, ◌<◌, ◌≤◌, List, [], ◌∷◌, length, sym, ap, subst, ◌∙◌, refl, arith, Option, None, Some, Bor}
+use Rattle.std.proofs.Common.{◌≡◌, ℕ, zero, suc, ◌+◌, ◌-◌, ◌<◌, ◌≤◌, List, [], ◌∷◌, length, sym, ap, ◌∙◌, refl, arith, Option, None, Some, Bor}
 use Rattle.std.specs.Option.{option_map, option_and_then}
 use Rattle.php_frames.specs.Course.{Course, Prints}
 use Rattle.php_frames.specs.Statements.{prints}
@@ -7,7 +7,7 @@ use Rattle.php_frames.specs.RunResult.{RunResult}
 use Rattle.php_frames.specs.Progress.{resumed}
 use Rattle.php_frames.specs.declared.page_run.PageRun.{PageRun}
 use Rattle.less_cmd.specs.Page.{Quoted, Texts, operand, after_space, after_comma, with_text, more_texts, texts_within}
-use Rattle.less_cmd.specs.Reading.{Reached, with_texts, behind, EchoRan}
+use Rattle.less_cmd.specs.Reading.{Reached, with_texts, EchoRan}
 
 -- the texts before `rest` were put out
 pub record EchoSoFar (old new : PageRun) (text rest : List ℕ) : Type 0 where
@@ -51,7 +51,7 @@ comes_to_end old mid new text rest bytes after last so_far read is_last none pri
     let To : Option Texts → Option Reached = option_map (with_texts (resumed path mid) course) in
     let read_so = reads_operand so_far.most rest bytes after so_far.enough read in
     let ends : follows (so_far.most - 1) bytes rest after ≡ Some (record { texts = bytes ∷ []; rest = last.now }) =
-        ap (λ space. more_texts (texts_within (so_far.most - 1)) bytes space (after_comma space)) (sym is_last) ∙ ap (more_texts (texts_within (so_far.most - 1)) bytes last.now) none in
+    ap (λ space. more_texts (texts_within (so_far.most - 1)) bytes space (after_comma space)) (sym is_last) ∙ ap (more_texts (texts_within (so_far.most - 1)) bytes last.now) none in
     so_far.same path course ∙ ap To (read_so ∙ ends) ∙ ap (λ result. Some (record { result = result; rest = last.now })) (printed path course)
 
 -- a text was put out, and a comma stands behind it
@@ -60,7 +60,7 @@ goes_on old mid new text rest bytes after space more so_far read short is_space 
     let enough = so_far.enough in
     let within = so_far.within in
     let follows_so : follows (so_far.most - 1) bytes rest after ≡ option_map (with_text bytes) (texts_within (so_far.most - 1) more) =
-        ap (λ s. more_texts (texts_within (so_far.most - 1)) bytes s (after_comma s)) (sym is_space) ∙ ap (more_texts (texts_within (so_far.most - 1)) bytes space) comma in
+    ap (λ s. more_texts (texts_within (so_far.most - 1)) bytes s (after_comma s)) (sym is_space) ∙ ap (more_texts (texts_within (so_far.most - 1)) bytes space) comma in
     record {
       most = so_far.most - 1;
       enough = omega (arith, enough, short, no_longer, shorter);

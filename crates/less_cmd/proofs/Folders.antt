@@ -1,8 +1,8 @@
 -- What a folder told before and after its calls.
-use Rattle.std.proofs.Common.{◌≡◌, ℕ, Bool, true, false, ◌&&◌, List, [], ◌∷◌, length, sym, ap, subst, ◌∙◌, refl, Option, None, Some, IfSome, IsSomeAnd, String, Global, string_bytes, map}
+use Rattle.std.proofs.Common.{◌≡◌, ℕ, Bool, ◌&&◌, List, [], ◌∷◌, length, sym, ap, subst, ◌∙◌, refl, Option, None, Some, IfSome, IsSomeAnd, String, Global, string_bytes, map}
 use Rattle.std.specs.List.{list_all}
 use Rattle.less_outside.specs.Files.{Files}
-use Rattle.less_outside.specs.Told.{Changes, Stays}
+use Rattle.less_outside.specs.Told.{Stays}
 use Rattle.std.specs.Option.{option_map, option_and_then}
 use Rattle.php_frames.specs.Statements.{Statement}
 use Rattle.php_frames.specs.RunResult.{RunResult}

@@ -1,5 +1,5 @@
 -- Which end an exit status tells of.
-use Rattle.std.proofs.Common.{◌≡◌, ℕ, refl, arith}
+use Rattle.std.proofs.Common.{◌≡◌, refl, arith}
 use Rattle.less_cmd.specs.declared.status.Status.{Status}
 use Rattle.less_cmd.specs.declared.status.Status.TheVariants.{Done, NotBuilt, ReadFault, WriteFault, Memory}
 use Rattle.less_cmd.specs.Status.{code_of, note_of, note_at, IsSilent, WritesNothing}

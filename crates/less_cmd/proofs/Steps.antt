@@ -1,15 +1,15 @@
 -- How the steps of a page are run one after the other.
-use Rattle.std.proofs.Common.{◌≡◌, ℕ, zero, suc, ◌+◌, ◌-◌, ◌<◌, ◌≤◌, List, [], ◌∷◌, ◌++◌, length, sym, ap, subst, ◌∙◌, refl, arith, Option, None, Some, Bor, false, codes, if◌then◌else◌}
+use Rattle.std.proofs.Common.{◌≡◌, ℕ, zero, suc, ◌+◌, ◌-◌, ◌<◌, List, [], ◌∷◌, ◌++◌, length, sym, ap, subst, ◌∙◌, refl, arith, Option, None, Some, Bor, false, codes, if◌then◌else◌}
 use Rattle.std.specs.Option.{option_map, option_and_then}
 use Rattle.php_frames.specs.Course.{World, Course, Ticks, Prints, Stops, Then, with_entered}
 use Rattle.php_frames.specs.Run.{run, trace, Tree, finish}
 use Rattle.php_frames.specs.Events.{Done}
-use Rattle.php_frames.specs.Statements.{Statement, Inline, Echo, Empty, prints, statement, block}
+use Rattle.php_frames.specs.Statements.{Statement, Inline, Echo, Empty, prints, block}
 use Rattle.php_frames.specs.RunResult.{RunResult, result_from, result_of}
-use Rattle.php_frames.specs.Progress.{resumed, closed, script_result}
+use Rattle.php_frames.specs.Progress.{resumed, script_result}
 use Rattle.php_frames.specs.declared.page_run.PageRun.{PageRun}
-use Rattle.less_cmd.specs.Page.{Texts, Step, step_to, texts_within, echo_step, ended, is_space, after_word, code_step, word_step, step_of, statements_within, page_of}
-use Rattle.less_cmd.specs.Reading.{Reached, Stepped, with_texts, behind, EchoRan, with_step, at_front, StepRan}
+use Rattle.less_cmd.specs.Page.{Texts, Step, step_to, ended, is_space, after_word, code_step, word_step, step_of, statements_within, page_of}
+use Rattle.less_cmd.specs.Reading.{Reached, Stepped, with_texts, EchoRan, with_step, at_front, StepRan}
 use Rattle.less_cmd.specs.declared.page.Front.{Front}
 use Rattle.less_cmd.specs.declared.page.Mode.{Mode}
 use Rattle.less_cmd.specs.declared.page.Mode.TheVariants.{Outside, Code}
@@ -144,7 +144,7 @@ step_done old new (Some step) front most ran path =
     let same_rest : step.rest ≡ front.rest.now = ap rest_at at in
     let same_mode : step.mode ≡ front.mode = ap (mode_at front.mode) at in
     let done : (more : List Statement) → goes_on_at path old (step.statements ++ more) ≡ goes_on_at path new more =
-        λ more. ap (resumed path old) (block_append step.statements more (begun path) finish) ∙ ap (result_stepped (goes_on_at path new more)) (ran path (begun path) (λ v. block more v finish)) in
+    λ more. ap (resumed path old) (block_append step.statements more (begun path) finish) ∙ ap (result_stepped (goes_on_at path new more)) (ran path (begun path) (λ v. block more v finish)) in
     ap (λ left. option_map (goes_on_at path old) (option_map (λ more. step.statements ++ more) (statements_within most step.mode left))) same_rest
     ∙ ap (λ how. option_map (goes_on_at path old) (option_map (λ more. step.statements ++ more) (statements_within most how front.rest.now))) same_mode
     ∙ mapped (λ more. step.statements ++ more) (goes_on_at path old) (goes_on_at path new) done (statements_within most front.mode front.rest.now)

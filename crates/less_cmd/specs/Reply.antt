@@ -1,7 +1,7 @@
 -- The text of a reply in HTTP/1.1: a status line, headers, an empty line and the body. Each line of the head ends in CR and LF.
 use Rattle.std.specs.Prelude.{ℕ, List, [], ◌∷◌, ◌++◌, length, codes}
 use Rattle.std.specs.Fmt.{decimal}
-use Rattle.php_frames.specs.Events.{Entry, End, Done, Removed, Budget}
+use Rattle.php_frames.specs.Events.{End, Done, Removed, Budget}
 use Rattle.php_frames.specs.RunResult.{RunResult}
 
 abbrev pub line_end : List ℕ

@@ -230,8 +230,14 @@ fn ended(text: &[u8]) -> Option<Front<'_>>
     ensures shorter { IfSome result (λ f. length f.rest.now < length text.now) }
 {
     match text {
-        [b';', rest @ ..] => Some(Front { rest, mode: Mode::Code }),
-        [b'?', b'>', rest @ ..] => Some(Front { rest: after_line_end(rest), mode: Mode::Outside }),
+        [b';', rest @ ..] => Some(Front {
+            rest,
+            mode: Mode::Code,
+        }),
+        [b'?', b'>', rest @ ..] => Some(Front {
+            rest: after_line_end(rest),
+            mode: Mode::Outside,
+        }),
         _ => None,
     }
 }
@@ -265,7 +271,10 @@ fn code_step<'t>(
         return Ok(None);
     };
     if is_space(*first) {
-        return Ok(Some(Front { rest, mode: Mode::Code }));
+        return Ok(Some(Front {
+            rest,
+            mode: Mode::Code,
+        }));
     }
     match after_word(b"echo", text) {
         Some(texts) => {
@@ -290,7 +299,10 @@ fn tag_step<'t>(
         return Ok(front);
     }
     match code_tag(text) {
-        Some(rest) => Ok(Some(Front { rest, mode: Mode::Code })),
+        Some(rest) => Ok(Some(Front {
+            rest,
+            mode: Mode::Code,
+        })),
         None => Ok(None),
     }
 }
@@ -311,7 +323,10 @@ fn outside_step<'t>(
     }
     run.tick();
     run.print(inline)?;
-    Ok(Some(Front { rest, mode: Mode::Outside }))
+    Ok(Some(Front {
+        rest,
+        mode: Mode::Outside,
+    }))
 }
 
 fn step<'t>(

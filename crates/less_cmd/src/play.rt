@@ -86,7 +86,9 @@ fn is_request<F: Folder>(alloc: Global, folder: &mut F, script: &str) -> Result<
 fn are_the_page(paths: &[String]) -> bool
     ensures { result ≡ list_all (λ path. spec.is_page_path (string_bytes path)) paths.now }
 {
-    paths.iter().all(|path| path.as_str() == "copies/guest/index.php")
+    paths
+        .iter()
+        .all(|path| path.as_str() == "copies/guest/index.php")
 }
 
 #[tactic(auto, using(crate::proofs::Folders::alone))]

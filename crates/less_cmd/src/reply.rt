@@ -11,10 +11,17 @@ pub fn reply_bytes(alloc: Global, run: &PageRun) -> Result<Vec<u8>, AllocError>
     ensures { IfOk result (λ bytes. (path : List ℕ) → bytes.items ≡ reply_text (closed path run.now)) }
 {
     let body = run.output();
+    let length = body.len();
     let head = if run.is_spent() {
-        format!(in alloc; "HTTP/1.1 503 Service Unavailable\r\nContent-Type: text/html; charset=UTF-8\r\nX-Less: budget\r\nContent-Length: {}\r\nConnection: close\r\n\r\n", body.len())?
+        format!(in alloc;
+            "HTTP/1.1 503 Service Unavailable\r\nContent-Type: text/html; charset=UTF-8\r\nX-Less: budget\r\nContent-Length: {}\r\nConnection: close\r\n\r\n",
+            length
+        )?
     } else {
-        format!(in alloc; "HTTP/1.1 200 OK\r\nContent-Type: text/html; charset=UTF-8\r\nContent-Length: {}\r\nConnection: close\r\n\r\n", body.len())?
+        format!(in alloc;
+            "HTTP/1.1 200 OK\r\nContent-Type: text/html; charset=UTF-8\r\nContent-Length: {}\r\nConnection: close\r\n\r\n",
+            length
+        )?
     };
     let mut bytes = Vec::with_capacity(alloc, head.len().saturating_add(body.len()))?;
     bytes.extend_from_slice(head.as_bytes())?;

@@ -22,13 +22,7 @@ fn note<N: Sink>(status: Status, notes: &mut N)
 
 /// Runs the command that the words name and answers the exit status: 0 done, 1 not built, 6 read fault, 7 write fault,
 /// 12 want of memory. Replies are written to `out`, and one line to `notes` where the status is not 0.
-#[tactic(auto, using(
-    crate::proofs::Statuses::is_done,
-    crate::proofs::Statuses::is_not_built,
-    crate::proofs::Statuses::is_read_fault,
-    crate::proofs::Statuses::is_write_fault,
-    crate::proofs::Statuses::is_silent
-))]
+#[tactic(auto, using(crate::proofs::Statuses::is_done, crate::proofs::Statuses::is_not_built, crate::proofs::Statuses::is_read_fault, crate::proofs::Statuses::is_write_fault, crate::proofs::Statuses::is_silent))]
 pub fn less_run<F: Folder, O: Sink, N: Sink>(
     alloc: Global,
     words: &[String],

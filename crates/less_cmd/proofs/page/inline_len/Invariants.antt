@@ -1,4 +1,4 @@
-use Rattle.std.proofs.Common.{◌≡◌, ◌+◌, ◌++◌, length}
+use Rattle.std.proofs.Common.{◌≡◌, ◌+◌, length}
 use Rattle.less_cmd.specs.Page as spec
 use Rattle.less_cmd.proofs.page.inline_len.Given as goal
 
