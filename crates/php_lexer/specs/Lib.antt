@@ -1,1 +1,3 @@
--- The definitions that the contracts of the lexer cite.
+pub mod Bytes
+pub mod Front
+pub mod Numbers

@@ -1,0 +1,46 @@
+-- The value of digits, one digit at a time.
+use Rattle.std.proofs.Common.{◌≡◌, ℕ, suc, ◌+◌, ◌-◌, ◌*◌, ◌^◌, ◌≤◌, ◌<◌, Bool, true, false, nat_le, cond, [], ◌∷◌, length, get_or, drop, Option, Some, None, refl, ap, sym, ◌∙◌, subst, arith, length-drop, add-one}
+use Rattle.std.proofs.lemmas.Grind.{common_steps}
+use Rattle.std.proofs.Math.Nat.{pow-suc, one-le-pow, mul_assoc, mul_comm, le-mul_of_pos_right}
+use Rattle.std.proofs.Math.Seq.{drop-cons}
+use Rattle.std.specs.Char.{digit_value}
+use Rattle.php_lexer.specs.Bytes.{Text}
+use Rattle.php_lexer.specs.Numbers.{value, within}
+
+shuffle : (acc base p d v : ℕ) → acc * (p * base) + (d * p + v) ≡ (acc * base + d) * p + v
+shuffle acc base p d v = grind arith
+
+value_cons : (base acc d k : ℕ) (ds : Text) → length ds ≡ k
+    → acc * base ^ suc k + value base (d ∷ ds) ≡ (acc * base + digit_value d) * base ^ k + value base ds
+value_cons base acc d k ds e = rw (e, pow-suc base k) (shuffle acc base (base ^ k) (digit_value d) (value base ds))
+
+-- a digit more
+pub value_step : (base acc i : ℕ) (s : Text) → i < length s
+    → (acc * base + digit_value (get_or s i 0)) * base ^ (length s - (i + 1)) + value base (drop (i + 1) s) ≡ acc * base ^ (length s - i) + value base (drop i s)
+value_step base acc i s h =
+    let len : length (drop (i + 1) s) ≡ length s - (i + 1) = length-drop (i + 1) s in
+    let more : length s - i ≡ suc (length s - (i + 1)) = omega arith in
+    let front : drop i s ≡ get_or s i 0 ∷ drop (i + 1) s = rw add-one (drop-cons s i 0 h) in
+    rw (more, front) (sym (value_cons base acc (get_or s i 0) (length s - (i + 1)) (drop (i + 1) s) len))
+
+-- what was read counts at least for itself
+pub value_least : (base n k v : ℕ) → 1 ≤ base → n ≤ n * base ^ k + v
+value_least base n k v h = let p : 1 ≤ base ^ k = one-le-pow k base h in let q : n ≤ n * base ^ k = le-mul_of_pos_right n p in omega arith
+
+-- what is too large stays so
+pub too_large : (m n v : ℕ) → n ≤ v → within m n ≡ None → within m v ≡ None
+too_large m n v h e = grind (arith, common_steps)
+
+pub within_some : (m n k : ℕ) → within m n ≡ Some k → (k ≡ n) × (k ≤ m)
+within_some m n k e = grind (arith, common_steps)
+
+-- where a digit is too much, the whole is
+pub value_over : (m base acc i : ℕ) (s : Text) → i < length s → 1 ≤ base
+    → acc * base ^ (length s - i) + value base (drop i s) ≡ value base s
+    → within m (acc * base + digit_value (get_or s i 0)) ≡ None → within m (value base s) ≡ None
+value_over m base acc i s h b inv e =
+    let d = acc * base + digit_value (get_or s i 0) in
+    let whole : d * base ^ (length s - (i + 1)) + value base (drop (i + 1) s) ≡ value base s = value_step base acc i s h ∙ inv in
+    let least : d ≤ d * base ^ (length s - (i + 1)) + value base (drop (i + 1) s) = value_least base d (length s - (i + 1)) (value base (drop (i + 1) s)) b in
+    let large : d ≤ value base s = rw whole at least in
+    too_large m d (value base s) large e
