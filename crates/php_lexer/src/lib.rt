@@ -6,4 +6,5 @@ pub mod fault;
 mod front;
 pub mod kinds;
 mod number;
+mod sign;
 pub mod token;
