@@ -1,7 +1,7 @@
 -- The value of digits, one digit at a time.
-use Rattle.std.proofs.Common.{◌≡◌, ℕ, suc, ◌+◌, ◌-◌, ◌*◌, ◌^◌, ◌≤◌, ◌<◌, Bool, true, false, nat_le, cond, [], ◌∷◌, length, get_or, drop, Option, Some, None, refl, ap, sym, ◌∙◌, subst, arith, length-drop, add-one}
+use Rattle.std.proofs.Common.{◌≡◌, ℕ, suc, ◌+◌, ◌-◌, ◌*◌, ◌^◌, ◌≤◌, ◌<◌, Bool, true, false, nat_le, cond, [], ◌∷◌, length, get_or, drop, Option, Some, None, refl, ap, sym, ◌∙◌, subst, lit≤, arith, length-drop, add-one}
 use Rattle.std.proofs.lemmas.Grind.{common_steps}
-use Rattle.std.proofs.Math.Nat.{pow-suc, one-le-pow, mul_assoc, mul_comm, le-mul_of_pos_right}
+use Rattle.std.proofs.Math.Nat.{pow-suc, one-le-pow, mul-le-mul, pow-le-pow_left, pow-le-pow_right, mul_assoc, mul_comm, le-mul_of_pos_right}
 use Rattle.std.proofs.Math.Seq.{drop-cons}
 use Rattle.std.specs.Char.{digit_value}
 use Rattle.php_lexer.specs.Bytes.{Text}
@@ -44,3 +44,24 @@ value_over m base acc i s h b inv e =
     let least : d ≤ d * base ^ (length s - (i + 1)) + value base (drop (i + 1) s) = value_least base d (length s - (i + 1)) (value base (drop (i + 1) s)) b in
     let large : d ≤ value base s = rw whole at least in
     too_large m d (value base s) large e
+
+-- ---- a few digits
+
+digit_small : (b : ℕ) → digit_value b ≤ 36
+digit_small b = grind (arith, common_steps)
+
+grows : (base d p q v : ℕ) → d ≤ 36 → p ≤ q → v ≤ 3 * q → d * p + v ≤ 3 * (q * 16)
+grows base d p q v h k l = let m : d * p ≤ 36 * q = mul-le-mul h k in omega arith
+
+value_below : (base : ℕ) (ds : Text) → base ≤ 16 → value base ds ≤ 3 * 16 ^ length ds
+value_below base [] h = omega arith
+value_below base (d ∷ ds) h =
+    rw (pow-suc 16 (length ds)) (grows base (digit_value d) (base ^ length ds) (16 ^ length ds) (value base ds) (digit_small d) (pow-le-pow_left h (length ds)) (value_below base ds h))
+
+pub value_few : (base : ℕ) (ds : Text) → base ≤ 16 → length ds ≤ 3 → value base ds ≤ 12288
+value_few base ds h k =
+    let p : 16 ^ length ds ≤ 16 ^ 3 = pow-le-pow_right (lit≤ tt) k in
+    let q = value_below base ds h in omega arith
+
+pub within_few : (m base : ℕ) (ds : Text) → base ≤ 16 → length ds ≤ 3 → 12288 ≤ m → within m (value base ds) ≡ None → ⊥
+within_few m base ds h k l e = let few = value_few base ds h k in grind (arith, common_steps)

@@ -2,9 +2,12 @@
 #![tactic(auto)]
 
 mod bytes;
+mod code;
 pub mod fault;
 mod front;
 pub mod kinds;
 mod number;
+mod piece;
 mod sign;
 pub mod token;
+mod until;
