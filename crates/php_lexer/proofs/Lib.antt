@@ -1,2 +1,3 @@
+pub mod MarkLemmas
 pub mod NumberLemmas
 pub mod UntilLemmas

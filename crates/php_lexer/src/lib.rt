@@ -9,5 +9,6 @@ pub mod kinds;
 mod number;
 mod piece;
 mod sign;
+mod state;
 pub mod token;
 mod until;
