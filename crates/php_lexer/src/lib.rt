@@ -1,6 +1,7 @@
 //! The tokens of PHP text.
 #![tactic(auto)]
 
+mod body;
 mod bytes;
 mod code;
 pub mod fault;
