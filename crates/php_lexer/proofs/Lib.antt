@@ -1,3 +1,4 @@
+pub mod TokenLaws
 pub mod MarkLemmas
 pub mod NumberLemmas
 pub mod UntilLemmas

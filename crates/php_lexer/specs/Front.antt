@@ -22,6 +22,11 @@ raw_len (raw.Plain n) = n
 raw_len (raw.Byte b n) = n
 raw_len (raw.Char c n) = n
 
+-- a character is at most 10FFFF
+abbrev pub IsChar : Raw → Type 0
+IsChar (raw.Char c n) = c ≤ 1114111
+IsChar _ = Unit {0}
+
 -- the words with `$`, `$[]`, `$[$]` and `$->`
 abbrev pub shape_len : Shape → ℕ
 shape_len (shape.Var n) = n + 1
@@ -48,7 +53,7 @@ OuterFits left outer.Echo = 3 ≤ left
 abbrev pub PieceFits : ℕ → Piece → Type 0
 PieceFits left piece.End = Unit {0}
 PieceFits left piece.Close = 1 ≤ left
-PieceFits left (piece.Raw r) = Fits left (raw_len r)
+PieceFits left (piece.Raw r) = Fits left (raw_len r) × IsChar r
 PieceFits left (piece.Var s) = shape_len s ≤ left
 PieceFits left piece.Embedded = 1 ≤ left
 PieceFits left (piece.Fault n k) = n ≤ left

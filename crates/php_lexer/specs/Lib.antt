@@ -4,6 +4,8 @@ pub mod Front
 pub mod Marks
 pub mod Numbers
 pub mod Pieces
+pub mod Scan
 pub mod Signs
 pub mod Texts
+pub mod Tokens
 pub mod Until

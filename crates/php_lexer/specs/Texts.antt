@@ -1,5 +1,5 @@
 -- What quoted texts stand for.
-use Rattle.std.specs.Prelude.{ℕ, ◌≤◌, ◌+◌, ◌/◌, ◌%◌, nat_lt, List, [], ◌∷◌, ◌++◌, take, if◌then◌else◌}
+use Rattle.std.specs.Prelude.{ℕ, ◌+◌, ◌/◌, ◌%◌, nat_lt, List, [], ◌∷◌, ◌++◌, take, if◌then◌else◌}
 use Rattle.php_lexer.specs.Bytes.{Text, cut}
 use Rattle.php_lexer.specs.declared.front.Raw.{Raw}
 use Rattle.php_lexer.specs.declared.front.Raw.TheVariants as raw
@@ -41,8 +41,3 @@ with_bytes parts (b ∷ bs) = parts ++ part.Bytes (b ∷ bs) ∷ []
 abbrev pub kind_of : List Part → Text → Kind
 kind_of [] bytes = kind.Text bytes
 kind_of (p ∷ ps) bytes = kind.Quote (with_bytes (p ∷ ps) bytes)
-
--- a character is at most 10FFFF
-abbrev pub IsChar : Raw → Type 0
-IsChar (raw.Char c n) = c ≤ 1114111
-IsChar _ = Unit {0}

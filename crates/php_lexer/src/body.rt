@@ -2,7 +2,7 @@
 
 ghost use Rattle.std.specs.Prelude.{◌≡◌, ◌≤◌, ◌+◌, ◌++◌, [], ◌∷◌, ◌<◌, ◌%◌, length, OnOk, IfOk};
 ghost use Rattle.php_lexer.specs.Bytes as bytes;
-ghost use Rattle.php_lexer.specs.Front.{raw_len, shape_len};
+ghost use Rattle.php_lexer.specs.Front.{raw_len, shape_len, IsChar};
 ghost use Rattle.php_lexer.specs.Texts as spec;
 
 use crate::bytes::cut;
@@ -97,7 +97,7 @@ impl Body {
     /// Adds what a form at the front stands for.
     pub fn add_raw(&mut self, raw: Raw, z: &[u8]) -> Result<(), AllocError>
         requires len { raw_len raw ≤ length z.now }
-        requires char { spec.IsChar raw }
+        requires char { IsChar raw }
         ensures parts { OnOk result (self.new.parts ≡ self.old.parts) }
         ensures bytes { OnOk result (self.new.bytes.items ≡ self.old.bytes.items ++ spec.raw_bytes raw z.now) }
     {

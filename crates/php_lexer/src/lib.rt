@@ -7,6 +7,7 @@ mod code;
 pub mod fault;
 mod front;
 pub mod kinds;
+pub mod laws;
 mod number;
 mod piece;
 mod sign;

@@ -94,3 +94,11 @@ pub enum Next<'t> {
     More(State<'t>),
     Done(Cursor<'t>),
 }
+
+/// A quoted text: double or single, in so many others, and the place of its quote.
+#[derive(Clone, Copy, Debug)]
+pub struct Quoted {
+    pub is_double: bool,
+    pub nest: usize,
+    pub quote: usize,
+}
