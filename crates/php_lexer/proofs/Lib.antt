@@ -1,4 +1,5 @@
 pub mod TokenLaws
 pub mod MarkLemmas
 pub mod NumberLemmas
+pub mod ScanLemmas
 pub mod UntilLemmas

@@ -1,8 +1,10 @@
 -- What the functions that read ensure.
-use Rattle.std.specs.Prelude.{◌≡◌, ℕ, ◌+◌, ◌<◌, List, [], ◌∷◌, ◌++◌, Option, None, Some, Bool}
+use Rattle.std.specs.Prelude.{◌≡◌, ℕ, ◌+◌, ◌-◌, ◌<◌, true, false, List, [], ◌∷◌, ◌++◌, Option, None, Some, Bool, drop, length}
 use Rattle.php_lexer.specs.Bytes.{Text}
 use Rattle.php_lexer.specs.Marks.{Mark}
-use Rattle.php_lexer.specs.Tokens.{Goal, code, body, Outcome, read, fault, after, Reads}
+use Rattle.php_lexer.specs.Pieces.{piece_at}
+use Rattle.php_lexer.specs.declared.front.Piece.TheVariants.{Close}
+use Rattle.php_lexer.specs.Tokens.{ends_part, Goal, code, body, Outcome, read, fault, after, Reads}
 use Rattle.php_lexer.specs.declared.kinds.Part.{Part}
 use Rattle.php_lexer.specs.declared.fault.LexFault.{LexFault}
 use Rattle.php_lexer.specs.declared.fault.LexFault.TheVariants.{At, Memory}
@@ -46,3 +48,39 @@ pub record Leads (t : Text) (a : Around) (g : Goal) (old new : List Mark) (next 
 abbrev pub GoesOn : State → Next → Type 0
 GoesOn s (More m) = (m.cursor.text ≡ s.cursor.text) × (s.cursor.at < m.cursor.at)
 GoesOn s (Done c) = c.text ≡ s.cursor.text
+
+-- the state so many bytes on
+pub record IsPast (s : State) (x : Bool) (d k : ℕ) (m : State) : Type 0 where
+  pub text : m.cursor.text ≡ s.cursor.text
+  pub at : m.cursor.at ≡ s.cursor.at + k
+  pub outside : m.is_outside ≡ x
+  pub depth : m.depth ≡ d
+
+-- after a closing brace
+abbrev pub IsShut : State → Around → Next → Type 0
+IsShut s a (More m) = (ends_part a.nest s.depth ≡ false) × IsPast s false (s.depth - 1) 1 m
+IsShut s a (Done c) = (ends_part a.nest s.depth ≡ true) × (c.text ≡ s.cursor.text) × (c.at ≡ s.cursor.at + 1)
+
+-- ---- a quoted text
+
+-- where the rest of a body begins after a step; the closing quote stays
+abbrev pub body_next : Cursor → Option Cursor → Cursor
+body_next cursor None = cursor
+body_next cursor (Some next) = next
+
+-- a piece was read, its expression's tokens were added, and what follows is the rest
+pub record BodyLeads (t : Text) (quoted : Quoted) (at end : ℕ) (was now : Body) (old new : List Mark) : Type 0 where
+  pub added : List Mark
+  pub list : new ≡ old ++ added
+  pub reads : (us : List Mark) (o : Outcome) → Reads t (body_goal quoted end now.parts now.bytes.items (us ++ added)) o
+      → Reads t (body_goal quoted at was.parts was.bytes.items us) o
+
+-- nothing was read only at the closing quote
+abbrev pub Closes : Cursor → Quoted → Option Cursor → Type 0
+Closes c quoted None = (Close ≡ piece_at quoted.is_double (drop c.at c.text.now)) × (c.at < length c.text.now)
+Closes c quoted (Some next) = Unit {0}
+
+-- the place is one of the same text, further on where something was read
+abbrev pub BodyGoesOn : Cursor → Option Cursor → Type 0
+BodyGoesOn c None = Unit {0}
+BodyGoesOn c (Some next) = (next.text ≡ c.text) × (c.at < next.at)

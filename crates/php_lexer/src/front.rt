@@ -1,5 +1,8 @@
 //! What can stand at the front of a text.
 
+ghost use Rattle.std.specs.Prelude.{◌≡◌, ◌<◌, ◌+◌, ◌^◌};
+ghost use Rattle.php_lexer.specs.Front.{raw_len, shape_len};
+
 use crate::fault::LexKind;
 use crate::kinds::{Cast, Sign};
 
@@ -67,6 +70,32 @@ pub enum Shape {
     IndexVar(usize, usize),
     /// `$v->p`
     Property(usize, usize),
+}
+
+impl Raw {
+    pub fn len(self) -> usize
+        ensures { result ≡ raw_len self }
+    {
+        match self {
+            Raw::Plain(len) => len,
+            Raw::Byte(_, len) => len,
+            Raw::Char(_, len) => len,
+        }
+    }
+}
+
+impl Shape {
+    pub fn len(self) -> usize
+        requires { shape_len self < 2 ^ 64 }
+        ensures { result ≡ shape_len self }
+    {
+        match self {
+            Shape::Var(name) => name + 1,
+            Shape::Index(name, key) => name + key + 3,
+            Shape::IndexVar(name, key) => name + key + 4,
+            Shape::Property(name, property) => name + property + 3,
+        }
+    }
 }
 
 /// What stands at the front of a quoted text's body.

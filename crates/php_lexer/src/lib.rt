@@ -10,6 +10,7 @@ pub mod kinds;
 pub mod laws;
 mod number;
 mod piece;
+mod scan;
 mod sign;
 mod state;
 pub mod token;
