@@ -1,5 +1,6 @@
-pub mod TokenLaws
+pub mod BodyLemmas
 pub mod MarkLemmas
 pub mod NumberLemmas
 pub mod ScanLemmas
+pub mod TokenLaws
 pub mod UntilLemmas

@@ -1,5 +1,5 @@
 -- From what a step read to what was read from the beginning.
-use Rattle.std.proofs.Common.{◌≡◌, ℕ, ◌+◌, ◌-◌, ◌<◌, Bool, true, false, List, [], ◌∷◌, ◌++◌, drop, refl, ap, sym, ◌∙◌, subst, arith, append_assoc, append-nil, ◌⊎◌, inl, inr, Result, Ok, Err, IfOk, IfErr}
+use Rattle.std.proofs.Common.{◌≡◌, ℕ, ◌+◌, ◌-◌, ◌<◌, Bool, true, false, List, [], ◌∷◌, ◌++◌, drop, refl, ap, sym, ◌∙◌, subst, arith, append_assoc, append-nil, ◌⊎◌, inl, inr, Result, Ok, Err, IfOk, IfErr, OnOk}
 use Rattle.php_lexer.specs.Bytes.{Text}
 use Rattle.php_lexer.specs.Code.{outside, inside}
 use Rattle.php_lexer.specs.Pieces.{piece_at}
@@ -199,3 +199,21 @@ pub quote_fault : (t : Text) (a : Around) (s : State) (d : Bool) (e : LexFault) 
     → too_deep d a.nest ≡ false → FaultAt t (body d a.nest s.cursor.at (s.cursor.at + 1) [] [] []) e → FaultAt t (goal_of s a) e
 quote_fault t a s d Memory x e n f = tt
 quote_fault t a s d (At p k) x e n f = by_front x e (tokens.quoted_fault n f)
+
+pub shut_ok : (t : Text) (a : Around) (s : State) (old new : List Mark) (r : Result Next LexFault) → s.is_outside ≡ false → front.Shut ≡ inside (drop s.cursor.at t)
+    → OnOk r (new ≡ old ++ mark_at t (kind.Sign BraceClose) s.cursor.at 1 ∷ []) → IfOk r (IsShut s a) → IfOk r (Leads t a (goal_of s a) old new)
+shut_ok t a s old new (Ok next) x e l h = shut_step t a s next x e l h
+shut_ok t a s old new (Err f) x e l h = tt
+
+-- the same of a step that names its text and its end in another way
+pub leads_next : {t : Text} {a : Around} {g : Goal} {s : State} {old mid new : List Mark} (u : Text) (n m : Next)
+    → u ≡ t → n ≡ m → Leads t a g old mid (More s) → Leads u a (goal_of s a) mid new n → Leads t a g old new m
+leads_next {t = t} {a = a} {g = g} {s = s} {mid = mid} {new = new} u n m e f l k =
+    leads_on l (subst (λ z. Leads t a (goal_of s a) mid new z) f (subst (λ z. Leads z a (goal_of s a) mid new n) e k))
+
+pub fault_next : {t : Text} {a : Around} {g : Goal} {s : State} {old mid : List Mark} (u : Text) (e : LexFault)
+    → u ≡ t → Leads t a g old mid (More s) → FaultAt u (goal_of s a) e → FaultAt t g e
+fault_next {t = t} {a = a} {s = s} u e f l h = leads_fault e l (subst (λ z. FaultAt z (goal_of s a) e) f h)
+
+pub adds_at : {t : Text} {g : Goal} {old new : List Mark} {i j : ℕ} → i ≡ j → Adds t g old new i → Adds t g old new j
+adds_at {t = t} {g = g} {old = old} {new = new} e h = subst (λ z. Adds t g old new z) e h

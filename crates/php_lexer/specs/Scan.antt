@@ -1,5 +1,5 @@
 -- What the functions that read ensure.
-use Rattle.std.specs.Prelude.{◌≡◌, ℕ, ◌+◌, ◌-◌, ◌<◌, true, false, List, [], ◌∷◌, ◌++◌, Option, None, Some, Bool, drop, length}
+use Rattle.std.specs.Prelude.{◌≡◌, ℕ, ◌+◌, ◌-◌, ◌<◌, ◌≤◌, true, false, List, [], ◌∷◌, ◌++◌, Option, None, Some, Bool, drop, length}
 use Rattle.php_lexer.specs.Bytes.{Text}
 use Rattle.php_lexer.specs.Marks.{Mark}
 use Rattle.php_lexer.specs.Pieces.{piece_at}
@@ -47,7 +47,7 @@ pub record Leads (t : Text) (a : Around) (g : Goal) (old new : List Mark) (next 
 -- the place is one of the same text, further on where there is more
 abbrev pub GoesOn : State → Next → Type 0
 GoesOn s (More m) = (m.cursor.text ≡ s.cursor.text) × (s.cursor.at < m.cursor.at)
-GoesOn s (Done c) = c.text ≡ s.cursor.text
+GoesOn s (Done c) = (c.text ≡ s.cursor.text) × (s.cursor.at ≤ c.at)
 
 -- the state so many bytes on
 pub record IsPast (s : State) (x : Bool) (d k : ℕ) (m : State) : Type 0 where

@@ -156,6 +156,14 @@ fn close<'t>(
     Ok(())
 }
 
+/// Whether a quoted text in so many double-quoted ones is one too many.
+fn is_too_deep(is_double: bool, nest: usize) -> bool
+    ensures value { result ≡ too_deep is_double nest }
+    ensures room { result ≡ false → is_double ≡ true → nest < 200 }
+{
+    is_double && nest >= MAX_NESTING
+}
+
 /// Reads what stands at the front of the code.
 #[cycle(scan)]
 fn code_step<'t>(
@@ -186,7 +194,7 @@ fn code_step<'t>(
         Front::Open => Ok(Next::More(open_brace(tokens, state)?)),
         Front::Shut => shut_brace(tokens, state, around),
         Front::Quote(is_double) => {
-            if is_double && around.nest >= MAX_NESTING {
+            if is_too_deep(is_double, around.nest) {
                 return Err(fault_at(cursor, 0, LexKind::Form(FormName::Nesting)));
             }
             let end = quoted(alloc, tokens, cursor, is_double, around.nest)?;
