@@ -26,6 +26,8 @@ use Rattle.php_lexer.specs.declared.kinds.Kind.TheVariants as kind
 use Rattle.php_lexer.specs.declared.kinds.Sign.TheVariants.{Semicolon, BraceOpen, BraceClose}
 use Rattle.php_lexer.specs.declared.kinds.Part.{Part}
 use Rattle.php_lexer.specs.declared.kinds.Part.TheVariants.{Embedded}
+use Rattle.php_lexer.specs.declared.fault.LexFault.{LexFault}
+use Rattle.php_lexer.specs.declared.fault.LexFault.TheVariants.{At, Memory}
 use Rattle.php_lexer.specs.declared.fault.LexKind.{LexKind}
 use Rattle.php_lexer.specs.declared.fault.LexKind.TheVariants.{OpenString, Form}
 use Rattle.php_lexer.specs.declared.fault.FormName.TheVariants.{Nesting}
@@ -133,6 +135,11 @@ IsTokens t ts = (end : ℕ) × Reads t whole (read ts end)
 -- the text's first fault
 abbrev pub IsFirstFault : Text → ℕ → LexKind → Type 0
 IsFirstFault t place k = Reads t whole (fault place k)
+
+-- the fault is the text's first, or want of memory
+abbrev pub IsFaultOf : Text → LexFault → Type 0
+IsFaultOf t (At place k) = IsFirstFault t place k
+IsFaultOf t Memory = Unit {0}
 
 -- a text has at most one list of tokens
 abbrev pub HasOneList : Type 0

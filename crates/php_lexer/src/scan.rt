@@ -220,7 +220,7 @@ fn moved<'t>(state: State<'t>, cursor: Cursor<'t>) -> State<'t>
 
 /// Reads tokens up to the end of the text, or of an embedded expression.
 #[cycle(scan)]
-fn read<'t>(
+pub fn read<'t>(
     alloc: Global,
     tokens: &mut Tokens<'t>,
     start: State<'t>,
