@@ -1,5 +1,5 @@
 -- A goal has one outcome.
-use Rattle.std.proofs.Common.{◌≡◌, ℕ, ◌+◌, ◌-◌, Bool, true, false, List, [], ◌∷◌, ◌++◌, drop, refl, ap, sym, ◌∙◌, subst, arith}
+use Rattle.std.proofs.Common.{◌≡◌, ◌≢◌, ℕ, ◌+◌, ◌-◌, Bool, true, false, List, [], ◌∷◌, ◌++◌, drop, refl, ap, sym, ◌∙◌, subst, arith}
 use Rattle.php_lexer.specs.Bytes.{Text}
 use Rattle.php_lexer.specs.Marks.{Mark, mark_at}
 use Rattle.php_lexer.specs.Texts.{with_bytes}
@@ -8,6 +8,9 @@ use Rattle.php_lexer.specs.declared.kinds.Sign.TheVariants.{Semicolon, BraceOpen
 use Rattle.php_lexer.specs.declared.kinds.Part.{Part}
 use Rattle.php_lexer.specs.declared.kinds.Part.TheVariants.{Embedded}
 use Rattle.php_lexer.specs.declared.fault.LexKind.{LexKind}
+use Rattle.php_lexer.specs.declared.fault.LexFault.{LexFault}
+use Rattle.php_lexer.specs.declared.fault.LexFault.TheVariants.{At, Memory}
+use Rattle.php_lexer.specs.Scan.{FaultAt}
 use Rattle.php_lexer.specs.Tokens.{simple_kind, Outcome, read, fault, after, Goal, code, outer_at, front_at, body, body_at, Reads, from_outer, inline, open_tag, echo_tag, outer_end, outer_open, from_front, blank, close_tag, token, open_brace, shut_brace, last_brace, quoted, quoted_fault, nested, code_end, code_open, code_fault, from_piece, bytes, variable, embedded, embedded_fault, closed, body_open, body_fault, whole, IsTokens, IsFirstFault, HasOneList, FaultIsAlone}
 
 read_tokens : {ts us : List Mark} {i j : ℕ} → read ts i ≡ read us j → ts ≡ us
@@ -86,3 +89,9 @@ fault_alone = record {
     no_tokens = λ t ts place k r s. other (one s.1 r);
     one_fault = λ t p q k l r s. fault_place (one r s);
   }
+
+-- where a fault was read, there are no tokens
+pub fault_none : (t u : Text) (i : ℕ) (e : LexFault) → u ≡ t → i ≡ 0 → FaultAt u (code true 0 0 0 i) e → e ≢ Memory → (ts : List Mark) → ¬ (IsTokens t ts)
+fault_none t u i Memory a b f n ts r = n refl
+fault_none t u i (At p k) a b f n ts r =
+    let here = subst (λ z. Reads z whole (fault p k)) a (subst (λ z. Reads u (code true 0 0 0 z) (fault p k)) b f) in other (one r.1 here)
