@@ -25,40 +25,40 @@ body_same : {t : Text} {x : Bool} {n q i j : ℕ} {ps qs : List Part} {bs cs : T
     → Reads t (body x n q i ps bs us) o → i ≡ j → ps ≡ qs → bs ≡ cs → us ≡ vs → Reads t (body x n q j qs cs vs) o
 body_same {t = t} {x = x} {n = n} {q = q} {i = i} {j = j} {ps = ps} {qs = qs} {bs = bs} {cs = cs} {us = us} {o = o} r a b c d =
     subst (λ z. Reads t (body x n q j qs cs z) o) d (subst (λ z. Reads t (body x n q j qs z us) o) c
-      (subst (λ z. Reads t (body x n q j z bs us) o) b (subst (λ z. Reads t (body x n q z ps bs us) o) a r)))
+    (subst (λ z. Reads t (body x n q j z bs us) o) b (subst (λ z. Reads t (body x n q z ps bs us) o) a r)))
 
 -- the closing quote: nothing was read
 pub body_none : (t : Text) (place : Quoted) (i : ℕ) (was : Body) (ms : List Mark) → BodyLeads t place i i was was ms ms
 body_none t place i was ms = record {
-    added = [];
-    list = sym (append-nil ms);
-    reads = λ us o r. body_same r refl refl refl (append-nil us);
-  }
+  added = [];
+  list = sym (append-nil ms);
+  reads = λ us o r. body_same r refl refl refl (append-nil us);
+}
 
 pub body_raw : (t : Text) (place : Quoted) (i j : ℕ) (was now : Body) (ms : List Mark) (f : Raw) → piece.Raw f ≡ piece_at place.is_double (drop i t)
     → j ≡ i + raw_len f → now.parts ≡ was.parts → now.bytes.items ≡ was.bytes.items ++ raw_bytes f (drop i t) → BodyLeads t place i j was now ms ms
 body_raw t place i j was now ms f e a p b = record {
-    added = [];
-    list = sym (append-nil ms);
-    reads = λ us o r. by_piece e (tokens.bytes (body_same r a p b (append-nil us)));
-  }
+  added = [];
+  list = sym (append-nil ms);
+  reads = λ us o r. by_piece e (tokens.bytes (body_same r a p b (append-nil us)));
+}
 
 pub body_variable : (t : Text) (place : Quoted) (i j : ℕ) (was now : Body) (ms : List Mark) (s : Shape) → piece.Var s ≡ piece_at place.is_double (drop i t)
     → j ≡ i + shape_len s → now.parts ≡ with_bytes was.parts was.bytes.items ++ part_of s (drop i t) ∷ [] → now.bytes.items ≡ [] → BodyLeads t place i j was now ms ms
 body_variable t place i j was now ms s e a p b = record {
-    added = [];
-    list = sym (append-nil ms);
-    reads = λ us o r. by_piece e (tokens.variable (body_same r a p b (append-nil us)));
-  }
+  added = [];
+  list = sym (append-nil ms);
+  reads = λ us o r. by_piece e (tokens.variable (body_same r a p b (append-nil us)));
+}
 
 pub body_embedded : (t : Text) (place : Quoted) (i j : ℕ) (was now : Body) (old new : List Mark) → piece.Embedded ≡ piece_at place.is_double (drop i t)
     → now.parts ≡ with_bytes was.parts was.bytes.items ++ Embedded ∷ [] → now.bytes.items ≡ []
     → Adds t (code false (place.nest + 1) place.quote 0 (i + 1)) old new j → BodyLeads t place i j was now old new
 body_embedded t place i j was now old new e p b a = record {
-    added = a.added;
-    list = a.list;
-    reads = λ us o r. by_piece e (tokens.embedded a.reads (body_same r refl p b refl));
-  }
+  added = a.added;
+  list = a.list;
+  reads = λ us o r. by_piece e (tokens.embedded a.reads (body_same r refl p b refl));
+}
 
 pub body_embedded_fault : (t : Text) (place : Quoted) (i : ℕ) (was : Body) (e : LexFault) (us : List Mark) → piece.Embedded ≡ piece_at place.is_double (drop i t)
     → FaultAt t (code false (place.nest + 1) place.quote 0 (i + 1)) e → FaultAt t (body_goal place i was.parts was.bytes.items us) e
@@ -77,20 +77,20 @@ pub record BodyAlong (t : Text) (place : Quoted) (at : ℕ) (now : Body) (old ne
 pub along_start : (t : Text) (place : Quoted) (at : ℕ) (now : Body) (old new : List Mark) (hole : Mark)
     → at ≡ place.quote + 1 → now.parts ≡ [] → now.bytes.items ≡ [] → new ≡ old ++ hole ∷ [] → BodyAlong t place at now old new
 along_start t place at now old new hole a p b l = record {
-    hole = hole;
-    inner = [];
-    list = l;
-    reads = λ o r. body_same r a p b refl;
-  }
+  hole = hole;
+  inner = [];
+  list = l;
+  reads = λ o r. body_same r a p b refl;
+}
 
 pub along_more : (t : Text) (place : Quoted) (i j : ℕ) (was now : Body) (old mid new : List Mark)
     → BodyAlong t place i was old mid → BodyLeads t place i j was now mid new → BodyAlong t place j now old new
 along_more t place i j was now old mid new l m = record {
-    hole = l.hole;
-    inner = l.inner ++ m.added;
-    list = m.list ∙ ap (λ z. z ++ m.added) l.list ∙ append_assoc old (l.hole ∷ l.inner) m.added;
-    reads = λ o r. l.reads o (m.reads l.inner o r);
-  }
+  hole = l.hole;
+  inner = l.inner ++ m.added;
+  list = m.list ∙ ap (λ z. z ++ m.added) l.list ∙ append_assoc old (l.hole ∷ l.inner) m.added;
+  reads = λ o r. l.reads o (m.reads l.inner o r);
+}
 
 pub along_fault : (t : Text) (place : Quoted) (i : ℕ) (was : Body) (old mid : List Mark) (e : LexFault)
     → BodyAlong t place i was old mid → ((us : List Mark) → FaultAt t (body_goal place i was.parts was.bytes.items us) e)
@@ -110,7 +110,7 @@ along_end t place i j slot n was old mid new l e s a b c =
       added = m ∷ l.inner;
       list = c ∙ set;
       reads = subst (λ z. Reads t (body_goal place (place.quote + 1) [] [] []) (read (m ∷ l.inner) z)) (sym a)
-        (subst (λ z. Reads t (body_goal place (place.quote + 1) [] [] []) (read (mark_at t (kind_of was.parts was.bytes.items) place.quote z ∷ l.inner) (i + 1))) (sym b) ends);
+          (subst (λ z. Reads t (body_goal place (place.quote + 1) [] [] []) (read (mark_at t (kind_of was.parts was.bytes.items) place.quote z ∷ l.inner) (i + 1))) (sym b) ends);
     }
 
 -- ---- the same, of a step that names its text and its end in another way

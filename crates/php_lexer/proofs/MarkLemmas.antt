@@ -17,5 +17,5 @@ newlines-append xs ys = sum_by-append (λ byte. cond (nat_eq byte 10) 1 0) xs ys
 pub line_past : (t : List ℕ) (i n : ℕ) → line_at t i + newlines (cut t i n) ≡ line_at t (i + n)
 line_past t i n =
     let parts : newlines (take (i + n) t) ≡ newlines (take i t) + newlines (take n (drop i t)) =
-        ap newlines (take-add i n t) ∙ newlines-append (take i t) (take n (drop i t)) in
+    ap newlines (take-add i n t) ∙ newlines-append (take i t) (take n (drop i t)) in
     omega arith

@@ -61,18 +61,18 @@ after-after ms ns (fault p f) = refl
 
 pub leads_start : {t : Text} {a : Around} {s : State} {ms : List Mark} → Leads t a (goal_of s a) ms ms (More s)
 leads_start {t = t} {a = a} {s = s} {ms = ms} = record {
-    added = [];
-    list = sym (append-nil ms);
-    reads = λ o r. subst (λ z. Reads t (goal_of s a) z) (sym (after-nil o)) r;
-  }
+  added = [];
+  list = sym (append-nil ms);
+  reads = λ o r. subst (λ z. Reads t (goal_of s a) z) (sym (after-nil o)) r;
+}
 
 pub leads_on : {t : Text} {a : Around} {g : Goal} {s : State} {old mid new : List Mark} {next : Next}
     → Leads t a g old mid (More s) → Leads t a (goal_of s a) mid new next → Leads t a g old new next
 leads_on {t = t} {g = g} {old = old} l m = record {
-    added = l.added ++ m.added;
-    list = m.list ∙ ap (λ z. z ++ m.added) l.list ∙ append_assoc old l.added m.added;
-    reads = λ o r. subst (λ z. Reads t g z) (after-after l.added m.added o) (l.reads (after m.added o) (m.reads o r));
-  }
+  added = l.added ++ m.added;
+  list = m.list ∙ ap (λ z. z ++ m.added) l.list ∙ append_assoc old l.added m.added;
+  reads = λ o r. subst (λ z. Reads t g z) (after-after l.added m.added o) (l.reads (after m.added o) (m.reads o r));
+}
 
 pub leads_fault : {t : Text} {a : Around} {g : Goal} {s : State} {old mid : List Mark} (e : LexFault)
     → Leads t a g old mid (More s) → FaultAt t (goal_of s a) e → FaultAt t g e
@@ -82,36 +82,36 @@ leads_fault (At place f) l r = l.reads (fault place f) r
 pub leads_end : {t : Text} {a : Around} {g : Goal} {old new : List Mark} (next : Next) (end : ℕ)
     → Leads t a g old new next → ((o : Outcome) → o ≡ read [] end → Follows t a next o) → Adds t g old new end
 leads_end {t = t} {g = g} next end l f = record {
-    added = l.added;
-    list = l.list;
-    reads = subst (λ z. Reads t g (read z end)) (append-nil l.added) (l.reads (read [] end) (f (read [] end) refl));
-  }
+  added = l.added;
+  list = l.list;
+  reads = subst (λ z. Reads t g (read z end)) (append-nil l.added) (l.reads (read [] end) (f (read [] end) refl));
+}
 
 -- ---- steps outside the code
 
 pub inline_step : (t : Text) (a : Around) (s m : State) (k : ℕ) {old new : List Mark} → s.is_outside ≡ true → outer.Inline k ≡ outside (drop s.cursor.at t)
     → new ≡ old ++ mark_at t kind.Inline s.cursor.at k ∷ [] → IsPast s true s.depth k m → Leads t a (goal_of s a) old new (More m)
 inline_step t a s m k x e l p = record {
-    added = mark_at t kind.Inline s.cursor.at k ∷ [];
-    list = l;
-    reads = λ o r. by_outer x e (tokens.inline (goal_same r p.outside p.depth p.at));
-  }
+  added = mark_at t kind.Inline s.cursor.at k ∷ [];
+  list = l;
+  reads = λ o r. by_outer x e (tokens.inline (goal_same r p.outside p.depth p.at));
+}
 
 pub tag_step : (t : Text) (a : Around) (s m : State) (k : ℕ) {old : List Mark} → s.is_outside ≡ true → outer.Tag k ≡ outside (drop s.cursor.at t)
     → IsPast s false s.depth k m → Leads t a (goal_of s a) old old (More m)
 tag_step t a s m k {old = old} x e p = record {
-    added = [];
-    list = sym (append-nil old);
-    reads = λ o r. by_outer x e (tokens.open_tag (goal_same (subst (λ z. Reads t (goal_of m a) z) (sym (after-nil o)) r) p.outside p.depth p.at));
-  }
+  added = [];
+  list = sym (append-nil old);
+  reads = λ o r. by_outer x e (tokens.open_tag (goal_same (subst (λ z. Reads t (goal_of m a) z) (sym (after-nil o)) r) p.outside p.depth p.at));
+}
 
 pub echo_step : (t : Text) (a : Around) (s m : State) {old new : List Mark} → s.is_outside ≡ true → outer.Echo ≡ outside (drop s.cursor.at t)
     → new ≡ old ++ mark_at t kind.Echo s.cursor.at 3 ∷ [] → IsPast s false s.depth 3 m → Leads t a (goal_of s a) old new (More m)
 echo_step t a s m x e l p = record {
-    added = mark_at t kind.Echo s.cursor.at 3 ∷ [];
-    list = l;
-    reads = λ o r. by_outer x e (tokens.echo_tag (goal_same r p.outside p.depth p.at));
-  }
+  added = mark_at t kind.Echo s.cursor.at 3 ∷ [];
+  list = l;
+  reads = λ o r. by_outer x e (tokens.echo_tag (goal_same r p.outside p.depth p.at));
+}
 
 -- ---- the end of the text
 
@@ -120,12 +120,12 @@ pub finish_ok : (t : Text) (a : Around) (s : State) (g : Goal) (old new : List M
     → IfOk r (λ next. (a.nest ≡ 0) × (next ≡ Done s.cursor) × (new ≡ old ++ mark_at t kind.End s.cursor.at 0 ∷ []))
     → IfOk r (Leads t a g old new)
 finish_ok t a s g old new (Ok next) ends (z, d, l) = record {
-    added = mark_at t kind.End s.cursor.at 0 ∷ [];
-    list = l;
-    reads = λ o r.
+  added = mark_at t kind.End s.cursor.at 0 ∷ [];
+  list = l;
+  reads = λ o r.
       let is : o ≡ read [] s.cursor.at = subst (λ n. Follows t a n o) d r in
       subst (λ y. Reads t g (after (mark_at t kind.End s.cursor.at 0 ∷ []) y)) (sym is) (ends z);
-  }
+}
 finish_ok t a s g old new (Err e) ends h = tt
 
 pub finish_fault : (t : Text) (a : Around) (g : Goal) (r : Result Next LexFault)
@@ -141,59 +141,59 @@ finish_fault t a g (Err e) opens (inr (n, f)) = subst (FaultAt t g) (sym f) (ope
 pub blank_step : (t : Text) (a : Around) (s m : State) (k : ℕ) {old : List Mark} → s.is_outside ≡ false → front.Blank k ≡ inside (drop s.cursor.at t)
     → IsPast s false s.depth k m → Leads t a (goal_of s a) old old (More m)
 blank_step t a s m k {old = old} x e p = record {
-    added = [];
-    list = sym (append-nil old);
-    reads = λ o r. by_front x e (tokens.blank (goal_same (subst (λ z. Reads t (goal_of m a) z) (sym (after-nil o)) r) p.outside p.depth p.at));
-  }
+  added = [];
+  list = sym (append-nil old);
+  reads = λ o r. by_front x e (tokens.blank (goal_same (subst (λ z. Reads t (goal_of m a) z) (sym (after-nil o)) r) p.outside p.depth p.at));
+}
 
 pub close_step : (t : Text) (a : Around) (s m : State) (k : ℕ) {old new : List Mark} → s.is_outside ≡ false → front.Close k ≡ inside (drop s.cursor.at t)
     → new ≡ old ++ mark_at t (kind.Sign Semicolon) s.cursor.at 2 ∷ [] → IsPast s true s.depth k m → Leads t a (goal_of s a) old new (More m)
 close_step t a s m k x e l p = record {
-    added = mark_at t (kind.Sign Semicolon) s.cursor.at 2 ∷ [];
-    list = l;
-    reads = λ o r. by_front x e (tokens.close_tag (goal_same r p.outside p.depth p.at));
-  }
+  added = mark_at t (kind.Sign Semicolon) s.cursor.at 2 ∷ [];
+  list = l;
+  reads = λ o r. by_front x e (tokens.close_tag (goal_same r p.outside p.depth p.at));
+}
 
 pub token_step : (t : Text) (a : Around) (s m : State) (f : Simple) (k : ℕ) {old new : List Mark} → s.is_outside ≡ false → front.Token f k ≡ inside (drop s.cursor.at t)
     → new ≡ old ++ mark_at t (simple_kind f) s.cursor.at k ∷ [] → IsPast s false s.depth k m → Leads t a (goal_of s a) old new (More m)
 token_step t a s m f k x e l p = record {
-    added = mark_at t (simple_kind f) s.cursor.at k ∷ [];
-    list = l;
-    reads = λ o r. by_front x e (tokens.token (goal_same r p.outside p.depth p.at));
-  }
+  added = mark_at t (simple_kind f) s.cursor.at k ∷ [];
+  list = l;
+  reads = λ o r. by_front x e (tokens.token (goal_same r p.outside p.depth p.at));
+}
 
 pub open_step : (t : Text) (a : Around) (s m : State) {old new : List Mark} → s.is_outside ≡ false → front.Open ≡ inside (drop s.cursor.at t)
     → new ≡ old ++ mark_at t (kind.Sign BraceOpen) s.cursor.at 1 ∷ [] → IsPast s false (s.depth + 1) 1 m → Leads t a (goal_of s a) old new (More m)
 open_step t a s m x e l p = record {
-    added = mark_at t (kind.Sign BraceOpen) s.cursor.at 1 ∷ [];
-    list = l;
-    reads = λ o r. by_front x e (tokens.open_brace (goal_same r p.outside p.depth p.at));
-  }
+  added = mark_at t (kind.Sign BraceOpen) s.cursor.at 1 ∷ [];
+  list = l;
+  reads = λ o r. by_front x e (tokens.open_brace (goal_same r p.outside p.depth p.at));
+}
 
 pub shut_step : (t : Text) (a : Around) (s : State) (next : Next) {old new : List Mark} → s.is_outside ≡ false → front.Shut ≡ inside (drop s.cursor.at t)
     → new ≡ old ++ mark_at t (kind.Sign BraceClose) s.cursor.at 1 ∷ [] → IsShut s a next → Leads t a (goal_of s a) old new next
 shut_step t a s (More m) x e l (n, p) = record {
-    added = mark_at t (kind.Sign BraceClose) s.cursor.at 1 ∷ [];
-    list = l;
-    reads = λ o r. by_front x e (tokens.shut_brace n (goal_same r p.outside p.depth p.at));
-  }
+  added = mark_at t (kind.Sign BraceClose) s.cursor.at 1 ∷ [];
+  list = l;
+  reads = λ o r. by_front x e (tokens.shut_brace n (goal_same r p.outside p.depth p.at));
+}
 shut_step t a s (Done c) x e l (n, same, p) = record {
-    added = mark_at t (kind.Sign BraceClose) s.cursor.at 1 ∷ [];
-    list = l;
-    reads = λ o is.
+  added = mark_at t (kind.Sign BraceClose) s.cursor.at 1 ∷ [];
+  list = l;
+  reads = λ o is.
       let place : o ≡ read [] (s.cursor.at + 1) = is ∙ ap (read []) p in
       subst (λ y. Reads t (goal_of s a) (after (mark_at t (kind.Sign BraceClose) s.cursor.at 1 ∷ []) y)) (sym place) (by_front x e (tokens.last_brace n));
-  }
+}
 
 -- a step through a quoted text
 pub quote_step : (t : Text) (a : Around) (s m : State) (d : Bool) {old new : List Mark} → s.is_outside ≡ false → front.Quote d ≡ inside (drop s.cursor.at t)
     → too_deep d a.nest ≡ false → Adds t (body d a.nest s.cursor.at (s.cursor.at + 1) [] [] []) old new m.cursor.at → m.is_outside ≡ false → m.depth ≡ s.depth
     → Leads t a (goal_of s a) old new (More m)
 quote_step t a s m d x e n r y z = record {
-    added = r.added;
-    list = r.list;
-    reads = λ o q. by_front x e (tokens.quoted n r.reads (goal_same q y z refl));
-  }
+  added = r.added;
+  list = r.list;
+  reads = λ o q. by_front x e (tokens.quoted n r.reads (goal_same q y z refl));
+}
 
 pub quote_fault : (t : Text) (a : Around) (s : State) (d : Bool) (e : LexFault) → s.is_outside ≡ false → front.Quote d ≡ inside (drop s.cursor.at t)
     → too_deep d a.nest ≡ false → FaultAt t (body d a.nest s.cursor.at (s.cursor.at + 1) [] [] []) e → FaultAt t (goal_of s a) e

@@ -86,9 +86,9 @@ fault_place e = (cc, cc)
 
 pub fault_alone : FaultIsAlone
 fault_alone = record {
-    no_tokens = λ t ts place k r s. other (one s.1 r);
-    one_fault = λ t p q k l r s. fault_place (one r s);
-  }
+  no_tokens = λ t ts place k r s. other (one s.1 r);
+  one_fault = λ t p q k l r s. fault_place (one r s);
+}
 
 -- where a fault was read, there are no tokens
 pub fault_none : (t u : Text) (i : ℕ) (e : LexFault) → u ≡ t → i ≡ 0 → FaultAt u (code true 0 0 0 i) e → e ≢ Memory → (ts : List Mark) → ¬ (IsTokens t ts)

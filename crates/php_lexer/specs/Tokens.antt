@@ -69,7 +69,6 @@ pub data Goal : Type 0 where
   body_at : Piece → Bool → ℕ → ℕ → ℕ → List Part → Text → List Mark → Goal
 
 pub data Reads : Text → Goal → Outcome → Type 0 where
-
   -- ---- outside the code
   from_outer : {t : Text} {n q d i : ℕ} {o : Outcome} → Reads t (outer_at (outside (drop i t)) n q d i) o → Reads t (code true n q d i) o
   inline : {t : Text} {n q d i k : ℕ} {o : Outcome}
@@ -79,7 +78,6 @@ pub data Reads : Text → Goal → Outcome → Type 0 where
       → Reads t (code false n q d (i + 3)) o → Reads t (outer_at outer.Echo n q d i) (after (mark_at t kind.Echo i 3 ∷ []) o)
   outer_end : {t : Text} {n q d i : ℕ} → n ≡ 0 → Reads t (outer_at outer.End n q d i) (read (mark_at t kind.End i 0 ∷ []) i)
   outer_open : {t : Text} {n q d i : ℕ} → (n ≡ 0 → ⊥) → Reads t (outer_at outer.End n q d i) (fault q OpenString)
-
   -- ---- inside
   from_front : {t : Text} {n q d i : ℕ} {o : Outcome} → Reads t (front_at (inside (drop i t)) n q d i) o → Reads t (code false n q d i) o
   blank : {t : Text} {n q d i k : ℕ} {o : Outcome} → Reads t (code false n q d (i + k)) o → Reads t (front_at (front.Blank k) n q d i) o
@@ -103,7 +101,6 @@ pub data Reads : Text → Goal → Outcome → Type 0 where
   code_end : {t : Text} {n q d i : ℕ} → n ≡ 0 → Reads t (front_at front.End n q d i) (read (mark_at t kind.End i 0 ∷ []) i)
   code_open : {t : Text} {n q d i : ℕ} → (n ≡ 0 → ⊥) → Reads t (front_at front.End n q d i) (fault q OpenString)
   code_fault : {t : Text} {n q d i k : ℕ} {f : LexKind} → Reads t (front_at (front.Fault k f) n q d i) (fault (i + k) f)
-
   -- ---- in a quoted text
   from_piece : {t : Text} {x : Bool} {n q i : ℕ} {ps : List Part} {bs : Text} {us : List Mark} {o : Outcome}
       → Reads t (body_at (piece_at x (drop i t)) x n q i ps bs us) o → Reads t (body x n q i ps bs us) o

@@ -88,10 +88,16 @@ impl Body {
             return self.bytes.extend_from_slice(&[lead(0xc0, c / 64), tail(c)]);
         }
         if c < 0x1_0000 {
-            return self.bytes.extend_from_slice(&[lead(0xe0, c / 4096), tail(c / 64), tail(c)]);
+            return self
+                .bytes
+                .extend_from_slice(&[lead(0xe0, c / 4096), tail(c / 64), tail(c)]);
         }
-        self.bytes
-            .extend_from_slice(&[lead(0xf0, c / 262_144), tail(c / 4096), tail(c / 64), tail(c)])
+        self.bytes.extend_from_slice(&[
+            lead(0xf0, c / 262_144),
+            tail(c / 4096),
+            tail(c / 64),
+            tail(c),
+        ])
     }
 
     /// Adds what a form at the front stands for.

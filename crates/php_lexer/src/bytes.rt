@@ -66,7 +66,11 @@ pub fn run_up_to(class: Class, z: &[u8], at: usize, most: usize) -> usize
     ensures capped { result ≤ most }
 {
     let rest = z.split_at(at).1;
-    let front = if most < rest.len() { rest.split_at(most).0 } else { rest };
+    let front = if most < rest.len() {
+        rest.split_at(most).0
+    } else {
+        rest
+    };
     run(class, front, 0)
 }
 

@@ -37,6 +37,10 @@ pub fn line_of(text: &[u8], place: usize) -> u32
     requires { length text.now < 4294967295 }
     ensures { result ≡ line_at text.now place }
 {
-    let front = if place < text.len() { text.split_at(place).0 } else { text };
+    let front = if place < text.len() {
+        text.split_at(place).0
+    } else {
+        text
+    };
     count_newlines(front) as u32 + 1
 }

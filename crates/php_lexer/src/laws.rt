@@ -5,11 +5,9 @@ ghost use Rattle.php_lexer.specs.Tokens.{HasOneList, FaultIsAlone};
 /// A text has at most one list of tokens.
 pub fn one_list()
     ensures { HasOneList }
-{
-}
+{}
 
 /// A text with a first fault has no tokens, and no other first fault.
 pub fn one_fault()
     ensures { FaultIsAlone }
-{
-}
+{}

@@ -17,11 +17,10 @@ mod state;
 pub mod token;
 mod until;
 
+pub use entry::{lex, line_of};
 pub use fault::{FormName, LexFault, LexKind};
 pub use kinds::{Cast, IndexKey, Kind, Part, Sign};
-pub use entry::{lex, line_of};
 pub use token::{Token, Tokens};
-
 
 #[cfg(test)]
 mod tests;

@@ -45,7 +45,12 @@ fn fault_at(cursor: Cursor<'_>, len: usize, kind: LexKind) -> LexFault
 }
 
 /// Adds a token of so many bytes.
-fn add<'t>(tokens: &mut Tokens<'t>, cursor: Cursor<'t>, kind: Kind, len: usize) -> Result<(), LexFault>
+fn add<'t>(
+    tokens: &mut Tokens<'t>,
+    cursor: Cursor<'t>,
+    kind: Kind,
+    len: usize,
+) -> Result<(), LexFault>
     requires { cursor.at + len ≤ length cursor.text.now }
     ensures ok { OnOk result (tokens.new ≡ tokens.old ++ mark_at cursor.entry.text.now kind cursor.entry.at len ∷ []) }
     ensures err { IfErr result (λ e. e ≡ LexFault.Memory) }
@@ -67,7 +72,11 @@ fn past<'t>(state: State<'t>, is_outside: bool, len: usize) -> State<'t>
 }
 
 /// At the end of the text: the end token, or an open text.
-fn finish<'t>(tokens: &mut Tokens<'t>, state: State<'t>, around: Around) -> Result<Next<'t>, LexFault>
+fn finish<'t>(
+    tokens: &mut Tokens<'t>,
+    state: State<'t>,
+    around: Around,
+) -> Result<Next<'t>, LexFault>
     requires { around.quote ≤ 1048576 }
     ensures ok { IfOk result (λ next. (around.nest ≡ 0) × (next ≡ Next.Done state.entry.cursor) × (tokens.new ≡ tokens.old ++ mark_at state.entry.cursor.text.now Kind.End state.entry.cursor.at 0 ∷ [])) }
     ensures err { IfErr result (λ e. (e ≡ LexFault.Memory) ⊎ ((around.nest ≡ 0 → ⊥) × (e ≡ LexFault.At around.quote LexKind.OpenString))) }
@@ -83,7 +92,11 @@ fn finish<'t>(tokens: &mut Tokens<'t>, state: State<'t>, around: Around) -> Resu
 }
 
 /// Reads what stands at the front outside the code.
-fn outer_step<'t>(tokens: &mut Tokens<'t>, state: State<'t>, around: Around) -> Result<Next<'t>, LexFault>
+fn outer_step<'t>(
+    tokens: &mut Tokens<'t>,
+    state: State<'t>,
+    around: Around,
+) -> Result<Next<'t>, LexFault>
     requires outside { state.is_outside ≡ true }
     requires quote { around.quote ≤ 1048576 }
     ensures leads { IfOk result (Leads state.entry.cursor.text.now around (goal_of state.entry around) tokens.old tokens.new) }
@@ -120,7 +133,11 @@ fn open_brace<'t>(tokens: &mut Tokens<'t>, state: State<'t>) -> Result<State<'t>
 }
 
 /// Reads a closing brace, which may be the last token of an embedded expression.
-fn shut_brace<'t>(tokens: &mut Tokens<'t>, state: State<'t>, around: Around) -> Result<Next<'t>, LexFault>
+fn shut_brace<'t>(
+    tokens: &mut Tokens<'t>,
+    state: State<'t>,
+    around: Around,
+) -> Result<Next<'t>, LexFault>
     requires { state.cursor.at < length state.cursor.text.now }
     ensures ok { OnOk result (tokens.new ≡ tokens.old ++ mark_at state.entry.cursor.text.now (Kind.Sign Sign.BraceClose) state.entry.cursor.at 1 ∷ []) }
     ensures next { IfOk result (IsShut state.entry around) }

@@ -153,20 +153,32 @@ fn each_form_is_a_token(rt: HostRuntime) -> Result<(), Fail> {
         (b"<?php //a\rb\nc", "WORD;END;"),
         (b"<?php /*?>*/ /**/ c", "WORD;END;"),
         (b"<?php $_a1 _B2", "VAR;WORD;END;"),
-        (b"<?php 0 10 017 0x1F 0Xa 0b101 0B1", "INT 0;INT 10;INT 15;INT 31;INT 10;INT 5;INT 1;END;"),
+        (
+            b"<?php 0 10 017 0x1F 0Xa 0b101 0B1",
+            "INT 0;INT 10;INT 15;INT 31;INT 10;INT 5;INT 1;END;",
+        ),
         (b"<?php 1e 0b12", "INT 1;WORD;INT 1;INT 2;END;"),
         (b"<?php 0x1.5", "Form(Float) at 9"),
         (b"<?php 1..2", "Form(Float) at 6"),
         (b"<?php 9223372036854775807", "INT 9223372036854775807;END;"),
         (b"<?php 9223372036854775808", "Form(Float) at 6"),
-        (b"<?php 0x7fffffffffffffff 0777777777777777777777", "INT 9223372036854775807;INT 9223372036854775807;END;"),
+        (
+            b"<?php 0x7fffffffffffffff 0777777777777777777777",
+            "INT 9223372036854775807;INT 9223372036854775807;END;",
+        ),
         (b"<?php 0x8000000000000000", "Form(Float) at 6"),
         (b"<?php 'a\\'b\\\\c\\n'", "TEXT a'b\\c\\n;END;"),
         (b"<?php \"a'b\" ''", "TEXT a'b;TEXT ;END;"),
         (b"<?php (int) ( INTEGER\t)", "CAST Int;CAST Int;END;"),
-        (b"<?php (string)(Bool)(boolean)(array)", "CAST Text;CAST Bool;CAST Bool;CAST Array;END;"),
+        (
+            b"<?php (string)(Bool)(boolean)(array)",
+            "CAST Text;CAST Bool;CAST Bool;CAST Array;END;",
+        ),
         (b"<?php (double)", "Form(Cast) at 6"),
-        (b"<?php (ints) (int", "ParenOpen;WORD;ParenClose;ParenOpen;WORD;END;"),
+        (
+            b"<?php (ints) (int",
+            "ParenOpen;WORD;ParenClose;ParenOpen;WORD;END;",
+        ),
         (b"<?php {$a}}", "BraceOpen;VAR;BraceClose;BraceClose;END;"),
         (b"<?php /*/", "OpenComment at 6"),
     ];
@@ -214,23 +226,47 @@ fn the_longest_sign_is_taken(rt: HostRuntime) -> Result<(), Fail> {
 fn double_quoted_texts_have_escapes_and_parts(rt: HostRuntime) -> Result<(), Fail> {
     let alloc = rt.alloc();
     let rows: [(&[u8], &str); 19] = [
-        (b"<?php \"\\n\\t\\r\\v\\e\\f\\\\\\$\\\"\"", "TEXT <10><9><13><11><27><12>\\$\";END;"),
+        (
+            b"<?php \"\\n\\t\\r\\v\\e\\f\\\\\\$\\\"\"",
+            "TEXT <10><9><13><11><27><12>\\$\";END;",
+        ),
         (b"<?php \"\\1\\101\\400\\1018\"", "TEXT <1>A<0>A8;END;"),
-        (b"<?php \"\\x4\\x41\\x414\\xg\\q\"", "TEXT <4>AA4\\xg\\q;END;"),
-        (b"<?php \"\\u{41}\\u{e9}\\u{20AC}\\u{10ffff}\\u41\"", "TEXT A<195><169><226><130><172><244><143><191><191>\\u41;END;"),
+        (
+            b"<?php \"\\x4\\x41\\x414\\xg\\q\"",
+            "TEXT <4>AA4\\xg\\q;END;",
+        ),
+        (
+            b"<?php \"\\u{41}\\u{e9}\\u{20AC}\\u{10ffff}\\u41\"",
+            "TEXT A<195><169><226><130><172><244><143><191><191>\\u41;END;",
+        ),
         (b"<?php \"\\u{d800}\"", "TEXT <237><160><128>;END;"),
         (b"<?php \"\\u{}\"", "Form(Unicode) at 7"),
         (b"<?php \"\\u{12", "Form(Unicode) at 7"),
         (b"<?php \"a$b c\"", "QUOTE a|$b c;END;"),
-        (b"<?php \"$a[b]$a[-12]$a[$c]\"", "QUOTE |i a b|i a -12|v a c;END;"),
-        (b"<?php \"$a->b->c $a-> $a- $ {\"", "QUOTE |p a b->c |$a-> |$a- $ {;END;"),
+        (
+            b"<?php \"$a[b]$a[-12]$a[$c]\"",
+            "QUOTE |i a b|i a -12|v a c;END;",
+        ),
+        (
+            b"<?php \"$a->b->c $a-> $a- $ {\"",
+            "QUOTE |p a b->c |$a-> |$a- $ {;END;",
+        ),
         (b"<?php \"$a[0\"", "Form(Offset) at 10"),
         (b"<?php \"$a[$]\"", "Form(Offset) at 10"),
         (b"<?php \"$a[${b}]\"", "Form(Dollar) at 10"),
         (b"<?php \"$a[", "OpenString at 6"),
-        (b"<?php \"{$a[\"b\"]}c\" d", "QUOTE |{}c;VAR;BracketOpen;TEXT b;BracketClose;BraceClose;WORD;END;"),
-        (b"<?php \"{$a{1}}{$b}\"", "QUOTE |{}|{};VAR;BraceOpen;INT 1;BraceClose;BraceClose;VAR;BraceClose;END;"),
-        (b"<?php \"{$a ?> x <?php }\"", "QUOTE |{};VAR;Semicolon;INLINE;BraceClose;END;"),
+        (
+            b"<?php \"{$a[\"b\"]}c\" d",
+            "QUOTE |{}c;VAR;BracketOpen;TEXT b;BracketClose;BraceClose;WORD;END;",
+        ),
+        (
+            b"<?php \"{$a{1}}{$b}\"",
+            "QUOTE |{}|{};VAR;BraceOpen;INT 1;BraceClose;BraceClose;VAR;BraceClose;END;",
+        ),
+        (
+            b"<?php \"{$a ?> x <?php }\"",
+            "QUOTE |{};VAR;Semicolon;INLINE;BraceClose;END;",
+        ),
         (b"<?php \"{$a ?> x", "OpenString at 6"),
         (b"<?php \"{$a 1.5", "Form(Float) at 11"),
     ];
@@ -241,7 +277,13 @@ fn double_quoted_texts_have_escapes_and_parts(rt: HostRuntime) -> Result<(), Fai
 }
 
 /// `front`, then so many times `middle`, then `back`.
-fn repeated(alloc: Global, front: &[u8], middle: &[u8], count: usize, back: &[u8]) -> Result<Vec<u8>, Fail> {
+fn repeated(
+    alloc: Global,
+    front: &[u8],
+    middle: &[u8],
+    count: usize,
+    back: &[u8],
+) -> Result<Vec<u8>, Fail> {
     let mut text = Vec::from_slice(alloc, front)?;
     for _ in 0..count {
         text.extend_from_slice(middle)?;
@@ -253,14 +295,54 @@ fn repeated(alloc: Global, front: &[u8], middle: &[u8], count: usize, back: &[u8
 #[test]
 fn limits_hold_at_both_ends(rt: HostRuntime) -> Result<(), Fail> {
     let alloc = rt.alloc();
-    row(&rt, alloc, repeated(alloc, b"<?php ", b"a", 100, b"")?.as_slice(), "WORD;END;")?;
-    row(&rt, alloc, repeated(alloc, b"<?php ", b"a", 101, b"")?.as_slice(), "Form(Name) at 6")?;
-    row(&rt, alloc, repeated(alloc, b"<?php $", b"a", 100, b"")?.as_slice(), "VAR;END;")?;
-    row(&rt, alloc, repeated(alloc, b"<?php $", b"a", 101, b"")?.as_slice(), "Form(Name) at 7")?;
-    row(&rt, alloc, repeated(alloc, b"<?php \"$", b"a", 101, b"\"")?.as_slice(), "Form(Name) at 8")?;
-    row(&rt, alloc, repeated(alloc, b"<?php \"$b->", b"a", 101, b"\"")?.as_slice(), "Form(Name) at 11")?;
-    row(&rt, alloc, repeated(alloc, b"<?php \"$b[", b"a", 101, b"]\"")?.as_slice(), "Form(Name) at 10")?;
-    row(&rt, alloc, repeated(alloc, b"<?php \"$b[$", b"a", 101, b"]\"")?.as_slice(), "Form(Name) at 11")?;
+    row(
+        &rt,
+        alloc,
+        repeated(alloc, b"<?php ", b"a", 100, b"")?.as_slice(),
+        "WORD;END;",
+    )?;
+    row(
+        &rt,
+        alloc,
+        repeated(alloc, b"<?php ", b"a", 101, b"")?.as_slice(),
+        "Form(Name) at 6",
+    )?;
+    row(
+        &rt,
+        alloc,
+        repeated(alloc, b"<?php $", b"a", 100, b"")?.as_slice(),
+        "VAR;END;",
+    )?;
+    row(
+        &rt,
+        alloc,
+        repeated(alloc, b"<?php $", b"a", 101, b"")?.as_slice(),
+        "Form(Name) at 7",
+    )?;
+    row(
+        &rt,
+        alloc,
+        repeated(alloc, b"<?php \"$", b"a", 101, b"\"")?.as_slice(),
+        "Form(Name) at 8",
+    )?;
+    row(
+        &rt,
+        alloc,
+        repeated(alloc, b"<?php \"$b->", b"a", 101, b"\"")?.as_slice(),
+        "Form(Name) at 11",
+    )?;
+    row(
+        &rt,
+        alloc,
+        repeated(alloc, b"<?php \"$b[", b"a", 101, b"]\"")?.as_slice(),
+        "Form(Name) at 10",
+    )?;
+    row(
+        &rt,
+        alloc,
+        repeated(alloc, b"<?php \"$b[$", b"a", 101, b"]\"")?.as_slice(),
+        "Form(Name) at 11",
+    )?;
     let allowed = repeated(alloc, b"<?php ", b"\"{$a.", 199, b"\"\"")?;
     let allowed = repeated(alloc, allowed.as_slice(), b"}\"", 199, b"")?;
     assert!(rt; allowed.len() <= 1_048_576);

@@ -7,5 +7,5 @@ use Rattle.php_lexer.proofs.token.Tokens.set.Goals as goal
 pub returns : goal.returns
 returns c =
     let moved : map mark_of c.set.new.self ≡ slice_set (map mark_of c.self.inside.list) c.args.at (mark_of c.args.token) =
-        ap (map mark_of) c.set.ensures ∙ map-set mark_of c.self.inside.list c.args.at c.args.token in
+    ap (map mark_of) c.set.ensures ∙ map-set mark_of c.self.inside.list c.args.at c.args.token in
     moved ∙ ap (λ zs. slice_set zs c.args.at (mark_of c.args.token)) c.self.view_is
