@@ -4,6 +4,7 @@ pub mod Front
 pub mod Marks
 pub mod Numbers
 pub mod Pieces
+pub mod Places
 pub mod Scan
 pub mod Signs
 pub mod Texts

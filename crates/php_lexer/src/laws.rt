@@ -1,6 +1,7 @@
 //! Laws of the definitions, each as the contract of a function that does nothing.
 
-ghost use Rattle.php_lexer.specs.Tokens.{HasOneList, FaultIsAlone};
+ghost use Rattle.php_lexer.specs.Places.{PlacesNeverFall};
+ghost use Rattle.php_lexer.specs.Tokens.{FaultIsAlone, HasOneList};
 
 /// A text has at most one list of tokens.
 pub fn one_list()
@@ -11,3 +12,9 @@ pub fn one_list()
 pub fn one_fault()
     ensures { FaultIsAlone }
 {}
+
+/// No token of a text stands before the one that comes before it in the list.
+pub fn places_never_fall()
+    ensures { PlacesNeverFall }
+{
+}
