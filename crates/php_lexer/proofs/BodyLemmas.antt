@@ -1,5 +1,5 @@
 -- Steps through a quoted text.
-use Rattle.std.proofs.Common.{◌≡◌, ℕ, ◌+◌, ◌-◌, ◌<◌, Bool, true, false, List, [], ◌∷◌, ◌++◌, length, slice_set, drop, refl, ap, sym, ◌∙◌, subst, arith, append_assoc, append-nil, Option, Some, None}
+use Rattle.std.proofs.Common.{◌≡◌, ℕ, ◌+◌, ◌-◌, Bool, false, List, [], ◌∷◌, ◌++◌, length, slice_set, drop, refl, ap, sym, ◌∙◌, subst, append_assoc, append-nil}
 use Rattle.php_lexer.specs.Bytes.{Text}
 use Rattle.php_lexer.specs.Pieces.{piece_at}
 use Rattle.php_lexer.specs.Front.{raw_len, shape_len}
@@ -8,7 +8,6 @@ use Rattle.php_lexer.specs.Marks.{Mark, mark_at}
 use Rattle.php_lexer.specs.Tokens as tokens
 use Rattle.php_lexer.specs.Tokens.{Outcome, read, fault, Goal, code, body, Reads}
 use Rattle.php_lexer.specs.Scan.{body_goal, FaultAt, Adds, BodyLeads}
-use Rattle.php_lexer.specs.declared.front.Piece.{Piece}
 use Rattle.php_lexer.specs.declared.front.Piece.TheVariants as piece
 use Rattle.php_lexer.specs.declared.front.Raw.{Raw}
 use Rattle.php_lexer.specs.declared.front.Shape.{Shape}

@@ -1,7 +1,7 @@
 -- The value of digits, one digit at a time.
-use Rattle.std.proofs.Common.{◌≡◌, ℕ, suc, ◌+◌, ◌-◌, ◌*◌, ◌^◌, ◌≤◌, ◌<◌, Bool, true, false, nat_le, cond, [], ◌∷◌, length, get_or, drop, Option, Some, None, refl, ap, sym, ◌∙◌, subst, lit≤, arith, length-drop, add-one}
+use Rattle.std.proofs.Common.{◌≡◌, ℕ, suc, ◌+◌, ◌-◌, ◌*◌, ◌^◌, ◌≤◌, ◌<◌, [], ◌∷◌, length, get_or, drop, Some, None, sym, ◌∙◌, lit≤, arith, length-drop, add-one}
 use Rattle.std.proofs.lemmas.Grind.{common_steps}
-use Rattle.std.proofs.Math.Nat.{pow-suc, one-le-pow, mul-le-mul, pow-le-pow_left, pow-le-pow_right, mul_assoc, mul_comm, le-mul_of_pos_right}
+use Rattle.std.proofs.Math.Nat.{pow-suc, one-le-pow, mul-le-mul, pow-le-pow_left, pow-le-pow_right, le-mul_of_pos_right}
 use Rattle.std.proofs.Math.Seq.{drop-cons}
 use Rattle.std.specs.Char.{digit_value}
 use Rattle.php_lexer.specs.Bytes.{Text}

@@ -1,6 +1,6 @@
 -- The places of the tokens that are read.
-use Rattle.std.proofs.Common.{◌≡◌, ℕ, ◌+◌, ◌-◌, ◌≤◌, Bool, true, false, List, [], ◌∷◌, ◌++◌, refl, arith}
-use Rattle.php_lexer.specs.Marks.{Mark, mark_at}
+use Rattle.std.proofs.Common.{ℕ, ◌+◌, ◌≤◌, List, [], ◌∷◌, ◌++◌, arith}
+use Rattle.php_lexer.specs.Marks.{Mark}
 use Rattle.php_lexer.specs.Places.{Climbs, PlacesNeverFall}
 use Rattle.php_lexer.specs.Bytes.{Text}
 use Rattle.php_lexer.specs.Tokens.{Outcome, read, fault, after, Goal, code, outer_at, front_at, body, body_at, Reads, from_outer, inline, open_tag, echo_tag, outer_end, outer_open, from_front, blank, close_tag, token, open_brace, shut_brace, last_brace, quoted, quoted_fault, nested, code_end, code_open, code_fault, from_piece, bytes, variable, embedded, embedded_fault, closed, body_open, body_fault}

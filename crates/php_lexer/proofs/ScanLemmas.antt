@@ -1,5 +1,5 @@
 -- From what a step read to what was read from the beginning.
-use Rattle.std.proofs.Common.{◌≡◌, ℕ, ◌+◌, ◌-◌, ◌<◌, Bool, true, false, List, [], ◌∷◌, ◌++◌, drop, refl, ap, sym, ◌∙◌, subst, arith, append_assoc, append-nil, ◌⊎◌, inl, inr, Result, Ok, Err, IfOk, IfErr, OnOk}
+use Rattle.std.proofs.Common.{◌≡◌, ℕ, ◌+◌, Bool, true, false, List, [], ◌∷◌, ◌++◌, drop, refl, ap, sym, ◌∙◌, subst, append_assoc, append-nil, ◌⊎◌, inl, inr, Result, Ok, Err, IfOk, IfErr, OnOk}
 use Rattle.php_lexer.specs.Bytes.{Text}
 use Rattle.php_lexer.specs.Code.{outside, inside}
 use Rattle.php_lexer.specs.Pieces.{piece_at}
@@ -13,14 +13,11 @@ use Rattle.php_lexer.specs.declared.front.Outer.TheVariants as outer
 use Rattle.php_lexer.specs.declared.front.Front.{Front}
 use Rattle.php_lexer.specs.declared.front.Front.TheVariants as front
 use Rattle.php_lexer.specs.declared.front.Simple.{Simple}
-use Rattle.php_lexer.specs.declared.kinds.Kind.{Kind}
 use Rattle.php_lexer.specs.declared.kinds.Kind.TheVariants as kind
 use Rattle.php_lexer.specs.declared.kinds.Sign.TheVariants.{Semicolon, BraceOpen, BraceClose}
-use Rattle.php_lexer.specs.declared.fault.LexKind.TheVariants.{OpenString, Form}
-use Rattle.php_lexer.specs.declared.fault.FormName.TheVariants.{Nesting}
+use Rattle.php_lexer.specs.declared.fault.LexKind.TheVariants.{OpenString}
 use Rattle.php_lexer.specs.declared.front.Piece.{Piece}
 use Rattle.php_lexer.specs.declared.kinds.Part.{Part}
-use Rattle.php_lexer.specs.declared.fault.LexKind.{LexKind}
 use Rattle.php_lexer.specs.declared.fault.LexFault.{LexFault}
 use Rattle.php_lexer.specs.declared.fault.LexFault.TheVariants.{At, Memory}
 use Rattle.php_lexer.specs.declared.state.State.{State}

@@ -1,17 +1,15 @@
 -- A goal has one outcome.
-use Rattle.std.proofs.Common.{◌≡◌, ◌≢◌, ℕ, ◌+◌, ◌-◌, Bool, true, false, List, [], ◌∷◌, ◌++◌, drop, refl, ap, sym, ◌∙◌, subst, arith}
+use Rattle.std.proofs.Common.{◌≡◌, ◌≢◌, ℕ, Bool, true, false, List, [], ◌∷◌, ◌++◌, refl, ap, sym, ◌∙◌, subst}
 use Rattle.php_lexer.specs.Bytes.{Text}
 use Rattle.php_lexer.specs.Marks.{Mark, mark_at}
-use Rattle.php_lexer.specs.Texts.{with_bytes}
 use Rattle.php_lexer.specs.declared.kinds.Kind.TheVariants as kind
 use Rattle.php_lexer.specs.declared.kinds.Sign.TheVariants.{Semicolon, BraceOpen, BraceClose}
 use Rattle.php_lexer.specs.declared.kinds.Part.{Part}
-use Rattle.php_lexer.specs.declared.kinds.Part.TheVariants.{Embedded}
 use Rattle.php_lexer.specs.declared.fault.LexKind.{LexKind}
 use Rattle.php_lexer.specs.declared.fault.LexFault.{LexFault}
 use Rattle.php_lexer.specs.declared.fault.LexFault.TheVariants.{At, Memory}
 use Rattle.php_lexer.specs.Scan.{FaultAt}
-use Rattle.php_lexer.specs.Tokens.{simple_kind, Outcome, read, fault, after, Goal, code, outer_at, front_at, body, body_at, Reads, from_outer, inline, open_tag, echo_tag, outer_end, outer_open, from_front, blank, close_tag, token, open_brace, shut_brace, last_brace, quoted, quoted_fault, nested, code_end, code_open, code_fault, from_piece, bytes, variable, embedded, embedded_fault, closed, body_open, body_fault, whole, IsTokens, IsFirstFault, HasOneList, FaultIsAlone}
+use Rattle.php_lexer.specs.Tokens.{simple_kind, Outcome, read, fault, after, Goal, code, body, Reads, from_outer, inline, open_tag, echo_tag, outer_end, outer_open, from_front, blank, close_tag, token, open_brace, shut_brace, last_brace, quoted, quoted_fault, nested, code_end, code_open, code_fault, from_piece, bytes, variable, embedded, embedded_fault, closed, body_open, body_fault, whole, IsTokens, HasOneList, FaultIsAlone}
 
 read_tokens : {ts us : List Mark} {i j : ℕ} → read ts i ≡ read us j → ts ≡ us
 read_tokens e = cc

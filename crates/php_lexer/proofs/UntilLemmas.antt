@@ -1,9 +1,9 @@
 -- Steps of a search for a mark.
-use Rattle.std.proofs.Common.{◌≡◌, ℕ, zero, suc, ◌+◌, ◌-◌, ◌≤◌, ◌<◌, Bool, true, false, Option, Some, None, ◌⊎◌, inl, inr, ◌||◌, nat_eq, cond, [], ◌∷◌, length, get_or, drop, refl, ap, sym, ◌∙◌, subst, arith, add-one}
+use Rattle.std.proofs.Common.{◌≡◌, ℕ, zero, suc, ◌+◌, ◌≤◌, ◌<◌, Bool, true, false, Some, None, ◌⊎◌, inl, inr, nat_eq, [], ◌∷◌, length, get_or, drop, refl, ap, arith, add-one}
 use Rattle.std.proofs.lemmas.Grind.{common_steps}
 use Rattle.std.proofs.Math.Seq.{drop-cons}
 use Rattle.std.proofs.lemmas.List.{drop-drop}
-use Rattle.memchr.specs.Find.{Nowhere, NoneBefore, Passes, IsFirst, IsFirstByte}
+use Rattle.memchr.specs.Find.{IsFirstByte}
 use Rattle.php_lexer.specs.declared.until.Stop.{Stop}
 use Rattle.php_lexer.specs.declared.until.Stop.TheVariants.{Line, Comment, Tag}
 use Rattle.php_lexer.specs.Bytes.{Text}

@@ -1,5 +1,5 @@
 -- What stands at the front of code, and outside the code: a case for each form.
-use Rattle.std.specs.Prelude.{ℕ, ◌+◌, ◌<◌, Bool, ◌==◌, ◌||◌, ◌&&◌, not, nat_lt, true, false, length, slice_index, drop, if◌then◌else◌}
+use Rattle.std.specs.Prelude.{ℕ, ◌+◌, Bool, ◌==◌, ◌&&◌, not, nat_lt, true, false, length, slice_index, drop, if◌then◌else◌}
 use Rattle.std.specs.Char.{is_ascii_digit}
 use Rattle.php_lexer.specs.Bytes.{Text, is_in, run}
 use Rattle.php_lexer.specs.Numbers.{number}

@@ -1,5 +1,5 @@
 -- What stands at a front lies within the text.
-use Rattle.std.specs.Prelude.{ℕ, ◌≤◌, ◌<◌, ◌+◌}
+use Rattle.std.specs.Prelude.{ℕ, ◌≤◌, ◌+◌}
 use Rattle.php_lexer.specs.declared.front.Front.{Front}
 use Rattle.php_lexer.specs.declared.front.Front.TheVariants as front
 use Rattle.php_lexer.specs.declared.front.Outer.{Outer}

@@ -1,5 +1,5 @@
 -- Whole numbers: what their digits mean, and which forms are left out.
-use Rattle.std.specs.Prelude.{ℕ, ◌+◌, ◌*◌, ◌^◌, Bool, ◌==◌, ◌||◌, ◌&&◌, not, nat_le, List, [], ◌∷◌, length, slice_index, Option, Some, None, if◌then◌else◌, pos}
+use Rattle.std.specs.Prelude.{ℕ, ◌+◌, ◌*◌, ◌^◌, Bool, ◌==◌, ◌||◌, ◌&&◌, not, nat_le, [], ◌∷◌, length, slice_index, Option, Some, None, if◌then◌else◌, pos}
 use Rattle.std.specs.Char.{is_ascii_digit, digit_value}
 use Rattle.std.specs.List.{list_all}
 use Rattle.php_lexer.specs.Bytes.{Text, is_in, run, cut}

@@ -1,5 +1,5 @@
 -- What stands at the front of a quoted text's body: a case for each form.
-use Rattle.std.specs.Prelude.{ℕ, ◌+◌, ◌%◌, Bool, ◌==◌, ◌||◌, ◌&&◌, not, nat_lt, nat_le, true, false, length, slice_index, if◌then◌else◌}
+use Rattle.std.specs.Prelude.{ℕ, ◌+◌, ◌%◌, Bool, ◌==◌, ◌||◌, ◌&&◌, not, nat_lt, nat_le, length, slice_index, if◌then◌else◌}
 use Rattle.php_lexer.specs.Bytes.{Text, is_in, run, run_up_to, cut}
 use Rattle.php_lexer.specs.Numbers.{value}
 use Rattle.php_lexer.specs.declared.bytes.Class.TheVariants as class

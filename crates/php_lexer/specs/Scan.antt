@@ -1,5 +1,5 @@
 -- What the functions that read ensure.
-use Rattle.std.specs.Prelude.{◌≡◌, ℕ, ◌+◌, ◌-◌, ◌<◌, ◌≤◌, true, false, List, [], ◌∷◌, ◌++◌, Option, None, Some, Bool, drop, length}
+use Rattle.std.specs.Prelude.{◌≡◌, ℕ, ◌+◌, ◌-◌, ◌<◌, ◌≤◌, true, false, List, [], ◌++◌, Option, None, Some, Bool, drop, length}
 use Rattle.php_lexer.specs.Bytes.{Text}
 use Rattle.php_lexer.specs.Marks.{Mark}
 use Rattle.php_lexer.specs.Pieces.{piece_at}

@@ -1,5 +1,5 @@
 -- How far a text goes before a mark.
-use Rattle.std.specs.Prelude.{ℕ, suc, ◌+◌, Bool, ◌==◌, ◌||◌, ◌&&◌, not, List, [], ◌∷◌, length, slice_index, if◌then◌else◌}
+use Rattle.std.specs.Prelude.{ℕ, suc, Bool, ◌==◌, ◌||◌, ◌&&◌, not, [], ◌∷◌, length, slice_index, if◌then◌else◌}
 use Rattle.php_lexer.specs.Bytes.{Text}
 use Rattle.php_lexer.specs.declared.until.Stop.{Stop}
 use Rattle.php_lexer.specs.declared.until.Stop.TheVariants.{Line, Comment, Tag}

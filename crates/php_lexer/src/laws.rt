@@ -16,5 +16,4 @@ pub fn one_fault()
 /// No token of a text stands before the one that comes before it in the list.
 pub fn places_never_fall()
     ensures { PlacesNeverFall }
-{
-}
+{}

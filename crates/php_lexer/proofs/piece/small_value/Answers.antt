@@ -1,4 +1,4 @@
-use Rattle.std.proofs.Common.{sym, ◌∙◌, lit≤, arith}
+use Rattle.std.proofs.Common.{sym, ◌∙◌, lit≤}
 use Rattle.php_lexer.specs.declared.number.TheConstants.{MAX_INT}
 use Rattle.php_lexer.proofs.NumberLemmas.{within_few}
 use Rattle.php_lexer.proofs.piece.small_value.Goals as goal

@@ -1,17 +1,15 @@
-use Rattle.std.proofs.Common.{◌≡◌, ◌<◌, ◌≤◌, ◌+◌, ◌-◌, ◌++◌, ◌∷◌, [], drop, length, true, false, refl, ap, sym, ◌∙◌, subst, arith, rules, add-zero, List, ℕ, Bor}
-use Rattle.std.proofs.lemmas.Grind.{common_steps}
+use Rattle.std.proofs.Common.{◌+◌, ◌-◌, ◌++◌, ◌∷◌, [], ap, sym, ◌∙◌, arith, add-zero, List, ℕ, Bor}
 use Rattle.std.proofs.lemmas.Result.{err_from_is_err_and}
 use Rattle.php_lexer.specs.Code.{inside}
 use Rattle.php_lexer.specs.Pieces.{piece_at}
-use Rattle.php_lexer.specs.Front.{raw_len, shape_len}
 use Rattle.php_lexer.specs.Texts.{raw_bytes, part_of, with_bytes}
 use Rattle.php_lexer.specs.Tokens as tokens
 use Rattle.php_lexer.specs.Marks.{mark_at}
-use Rattle.php_lexer.specs.Scan.{goal_of, body_next}
+use Rattle.php_lexer.specs.Scan.{body_next}
 use Rattle.php_lexer.specs.declared.state.Cursor.{Cursor}
 use Rattle.php_lexer.specs.declared.state.Next.TheVariants.{Done}
-use Rattle.php_lexer.proofs.ScanLemmas.{by_front, by_piece, blank_step, close_step, token_step, open_step, shut_step, quote_step, quote_fault, finish_ok, finish_fault, shut_ok, leads_next, leads_end, adds_at}
-use Rattle.php_lexer.proofs.BodyLemmas.{body_none, body_raw, body_variable, body_embedded, body_embedded_fault, along_next, along_fault_next, along_end, close_at}
+use Rattle.php_lexer.proofs.ScanLemmas.{by_front, by_piece, blank_step, close_step, token_step, open_step, quote_step, quote_fault, finish_ok, finish_fault, shut_ok, leads_next, leads_end, adds_at}
+use Rattle.php_lexer.proofs.BodyLemmas.{body_raw, body_variable, body_embedded, body_embedded_fault, along_next, along_fault_next, along_end, close_at}
 use Rattle.php_lexer.proofs.scan.+scan.Goals as goal
 
 -- ---- a quoted text's body

@@ -1,4 +1,4 @@
-use Rattle.std.proofs.Common.{rules, ap, ◌∙◌, arith}
+use Rattle.std.proofs.Common.{ap, ◌∙◌}
 use Rattle.php_lexer.specs.Code.{outside}
 use Rattle.php_lexer.proofs.ScanLemmas.{by_outer, inline_step, tag_step, echo_step, finish_ok, finish_fault}
 use Rattle.php_lexer.specs.Tokens.{outer_end, outer_open}

@@ -1,4 +1,4 @@
-use Rattle.std.proofs.Common.{◌≡◌, ◌+◌, arith, ◌∙◌, ap}
+use Rattle.std.proofs.Common.{◌≡◌, arith, ◌∙◌, ap}
 use Rattle.less_terms.specs.Lines.{line_at, newlines}
 use Rattle.php_lexer.proofs.MarkLemmas.{line_past}
 use Rattle.php_lexer.proofs.state.Cursor.past.Goals as goal
