@@ -1,6 +1,6 @@
 -- A clock in memory as a value.
 use Rattle.std.specs.Prelude.{ℕ, Bool, List, if◌then◌else◌}
-use Rattle.less_outside.specs.Told.{next, next_on, is_listed}
+use Rattle.less_outside.specs.Told.{next, is_listed}
 
 pub record ClockState : Type 0 where
   -- the moment that its calls give
