@@ -1,5 +1,5 @@
 -- What a read of std says of what is left.
-use Rattle.std.proofs.Common.{◌≡◌, ℕ, ◌+◌, ◌<◌, ◌≤◌, ◌↔◌, List, [], ◌∷◌, ◌++◌, length, take, refl, sym, ap, ◌∙◌, arith, length-append, length-take}
+use Rattle.std.proofs.Common.{◌≡◌, ℕ, ◌<◌, ◌≤◌, List, [], ◌++◌, length, take, refl, sym, ap, ◌∙◌, arith, length-append, length-take}
 use Rattle.std.specs.Prelude.{Option, None, Some}
 use Rattle.std.specs.Io.KnownBytes.{Consumes, IsAtEnd}
 use Rattle.less_outside.specs.Told.{Stays}
@@ -27,6 +27,6 @@ pub ends : (left new : Option (List ℕ)) (buf : List ℕ) (room n : ℕ) → ro
 ends None new buf room n same within taken at_end = tt
 ends (Some xs) None buf room n same within taken at_end = absurd taken
 ends (Some xs) (Some ys) buf room n same within taken at_end = λ some. (
-    λ none. nothing_left xs ys (take n buf) taken (take_none buf n none) (at_end none (omega (arith, some, same))),
-    none_taken xs ys buf n taken within,
-  )
+  λ none. nothing_left xs ys (take n buf) taken (take_none buf n none) (at_end none (omega (arith, some, same))),
+  none_taken xs ys buf n taken within,
+)

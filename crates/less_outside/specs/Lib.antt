@@ -1,7 +1,11 @@
+pub mod Clock
+pub mod ClockReal
 pub mod Files
 pub mod Folder
 pub mod FolderMem
 pub mod FolderReal
+pub mod Ids
+pub mod IdsReal
 pub mod Link
 pub mod LinkMem
 pub mod LinkReal

@@ -111,8 +111,7 @@ impl Link for LinkMem {
         ensures after { self.new ≡ after_write self.old bytes.now }
         ensures cause { HasCause self.old.write_faults self.new.write_faults result }
     {
-        let fails = self.failing.contains(&self.calls)
-            || bytes.len() > self.room - self.sent.len();
+        let fails = self.failing.contains(&self.calls) || bytes.len() > self.room - self.sent.len();
         self.calls = self.calls.saturating_add(1);
         if fails || self.sent.extend_from_slice(bytes).is_err() {
             self.write_faults = self.write_faults.saturating_add(1);

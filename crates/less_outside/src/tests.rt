@@ -143,3 +143,73 @@ fn a_folder_of_the_system_lists_reads_writes_and_removes(rt: HostRuntime) -> Res
     fs::remove_dir_all(&rt, root.as_str())?;
     Ok(())
 }
+
+#[test]
+fn a_link_in_memory_gives_pieces_and_takes_up_to_its_room(rt: HostRuntime) -> Result<(), Fail> {
+    let alloc = rt.alloc();
+    let input = Vec::from_slice(alloc, b"abcde")?;
+    let mut link = LinkMem::new(alloc, input, 3, 4, vec![in alloc; 1]?)?;
+    let mut room = *b"....";
+    assert_eq!(rt; link.read(&mut room), Ok(3));
+    assert_eq!(rt; room, *b"abc.");
+    assert_eq!(rt; link.read(&mut room), Err(OutsideFault::Failed));
+    assert_eq!(rt; link.rest(), b"de".as_slice());
+    assert_eq!(rt; link.read(&mut room[..1]), Ok(1));
+    assert_eq!(rt; link.read(&mut room), Ok(1));
+    assert_eq!(rt; room, *b"ebc.");
+    assert_eq!(rt; link.read(&mut room), Ok(0));
+    assert_eq!(rt; link.write(b"xyz"), Ok(()));
+    assert_eq!(rt; link.write(b"12"), Err(OutsideFault::Failed));
+    assert_eq!(rt; link.write(b"1"), Ok(()));
+    assert_eq!(rt; link.written(), b"xyz1".as_slice());
+    assert_eq!(rt; link.read_faults(), 1);
+    assert_eq!(rt; link.write_faults(), 1);
+    Ok(())
+}
+
+#[test]
+fn a_link_over_a_reader_and_a_writer_hands_on_all_bytes(rt: HostRuntime) -> Result<(), Fail> {
+    let mut link = LinkReal::new(b"abc".as_slice(), Vec::new(rt.alloc()));
+    let mut room = *b"..";
+    assert_eq!(rt; link.read(&mut room), Ok(2));
+    assert_eq!(rt; room, *b"ab");
+    assert_eq!(rt; link.write(b"one "), Ok(()));
+    assert_eq!(rt; link.write(b"two"), Ok(()));
+    assert_eq!(rt; link.writer.as_slice(), b"one two".as_slice());
+    assert_eq!(rt; link.read(&mut room), Ok(1));
+    assert_eq!(rt; link.read(&mut room), Ok(0));
+    assert_eq!(rt; link.read_faults(), 0);
+    assert_eq!(rt; link.write_faults(), 0);
+    Ok(())
+}
+
+#[test]
+fn clocks_and_ids_in_memory_fail_where_they_are_told(rt: HostRuntime) -> Result<(), Fail> {
+    let alloc = rt.alloc();
+    let mut clock = ClockMem::new(MAX_MOMENT, vec![in alloc; 1]?);
+    assert_eq!(rt; clock.now(), Ok(9_999_999_999));
+    assert_eq!(rt; clock.now(), Err(OutsideFault::Failed));
+    assert_eq!(rt; clock.now(), Ok(9_999_999_999));
+    assert_eq!(rt; clock.faults(), 1);
+    let mut ids = IdsMem::new(vec![in alloc; 1]?);
+    assert_eq!(rt; ids.draw(), Ok(1));
+    assert_eq!(rt; ids.draw(), Err(OutsideFault::Failed));
+    assert_eq!(rt; ids.draw(), Ok(2));
+    assert_eq!(rt; ids.faults(), 1);
+    Ok(())
+}
+
+#[test]
+fn the_system_has_a_clock_and_random_bytes(rt: HostRuntime) -> Result<(), Fail> {
+    let mut clock = ClockReal::new(rt.clone()?);
+    let moment = clock.now();
+    assert!(rt; matches!(moment, Ok(seconds) if seconds > 1_700_000_000));
+    assert_eq!(rt; clock.faults(), 0);
+    let mut ids = IdsReal::new(rt.clone()?);
+    let first = ids.draw();
+    let second = ids.draw();
+    assert!(rt; first.is_ok() && second.is_ok());
+    assert_ne!(rt; first, second);
+    assert_eq!(rt; ids.faults(), 0);
+    Ok(())
+}
