@@ -1,0 +1,106 @@
+// A row: its columns in their order, none of them twice.
+ghost use Rattle.std.specs.Prelude.{◌≡◌, [], ◌++◌, ◌∷◌, ◌-◌, ◌^◌, ◌<◌, length, min, codes, None, Option, IfOk, OnOk, OnErr, IfSome, fold, slice_index_or, slice_set};
+ghost use Rattle.std.specs.List.{position};
+ghost use Rattle.std.specs.Option.{option_copied};
+ghost use Rattle.tables_keeper.specs.Rows.{cell_at, is_named, put_column, row_size, without_id, merged, with_id, has_text};
+
+use crate::{Cell, CellText, Column};
+use std::alloc::{AllocError, Global};
+use std::marker::Model;
+
+/// The name under which a row's id is handed out and sought.
+pub const ID: &[u8] = b"id";
+
+/// The columns of a row in their order. Contracts see it as the list of its columns, of which no two have one name.
+#[derive(Debug, Drop)]
+pub struct RowCells {
+    columns: Vec<Column>,
+}
+
+impl Model for RowCells {
+    ghost use Rattle.std.specs.Prelude.{List};
+    ghost use Rattle.tables_keeper.specs.declared.cell.Column.{Column};
+    ghost use Rattle.tables_keeper.specs.Rows.{HasDistinctNames};
+
+    ghost Value = { List Column };
+
+    ghost view = { λ row. row.columns.items };
+
+    ghost invariant = { λ row. HasDistinctNames row.columns.items };
+}
+
+/// The place of the column of this name.
+fn place_of(columns: &[Column], name: &[u8]) -> Option<usize>
+    ensures { result ≡ position (is_named name.now) columns.now }
+{
+    columns
+        .iter()
+        .position(|column| column.name.as_slice() == name)
+}
+
+impl RowCells {
+    pub fn new(alloc: Global) -> Self
+        ensures { result ≡ [] }
+    {
+        RowCells {
+            columns: Vec::new(alloc),
+        }
+    }
+
+    /// How many columns there are.
+    pub fn len(&self) -> usize
+        ensures { result ≡ length self.now }
+    {
+        self.columns.len()
+    }
+
+    /// The columns in their order.
+    pub fn columns(&self) -> &[Column]
+        ensures { result.now ≡ self.now }
+    {
+        &self.columns
+    }
+
+    /// The cell at a name.
+    pub fn cell(&self, name: &[u8]) -> Option<&Cell>
+        ensures { option_copied result ≡ cell_at name.now self.now }
+    {
+        self.columns
+            .iter()
+            .find(|column| column.name.as_slice() == name)
+            .map(|column| &column.cell)
+    }
+
+    /// Puts a column in the place of the one of its name, or else last.
+    pub fn put(&mut self, column: Column) -> Result<(), AllocError>
+        ensures ok { OnOk result (self.new ≡ put_column self.old column) }
+        ensures err { OnErr result (self.new ≡ self.old) }
+    {
+        match place_of(&self.columns, column.name.as_slice()) {
+            Some(place) => self.columns[place] = column,
+            None => self.columns.push(column)?,
+        }
+        Ok(())
+    }
+
+    pub fn copy(&self, alloc: Global) -> Result<Self, AllocError>
+        ensures { IfOk result (λ row. row ≡ self.now) }
+    {
+        let mut columns = Vec::with_capacity(alloc, self.columns.len())?;
+        for column in &self.columns {
+            columns.push(column.copy(alloc)?)?;
+        }
+        Ok(RowCells { columns })
+    }
+
+    /// The size in bytes that limits count, or the type's last number where it is more.
+    pub fn size(&self) -> u64
+        ensures { result ≡ min (row_size self.now) (2 ^ 64 - 1) }
+    {
+        let mut size = 0u64;
+        for column in &self.columns {
+            size = size.saturating_add(column.size());
+        }
+        size
+    }
+}
