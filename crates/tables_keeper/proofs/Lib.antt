@@ -1,2 +1,4 @@
+pub mod NameLemmas
 pub mod Places
 pub mod RowLemmas
+pub mod TableLemmas

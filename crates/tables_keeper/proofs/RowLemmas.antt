@@ -1,12 +1,15 @@
 -- Rows: what keeps their names apart.
-use Rattle.std.proofs.Common.{◌≡◌, ℕ, ◌<◌, Bool, true, false, Some, None, List, [], ◌∷◌, ◌++◌, length, get_or, set, map, refl, sym, ap, ◌∙◌, subst, arith}
+use Rattle.std.proofs.Common.{◌≡◌, ℕ, ◌<◌, Bool, true, false, Some, None, List, [], ◌∷◌, ◌++◌, length, get_or, set, map, not, cond, codes, pos, refl, sym, ap, ◌∙◌, subst, arith}
 use Rattle.std.specs.List.{position, AllPairs}
 use Rattle.std.specs.Str.{bytes_eq}
 use Rattle.std.proofs.lemmas.List.{map-set, set-get_or, map_push, get_or-map, length-map}
+use Rattle.std.specs.List.{filter, All}
+use Rattle.std.proofs.lemmas.List.Kept.{AllPairs-filter, AllPairs-cons}
 use Rattle.std.proofs.lemmas.List.Quantifiers.{all_pairs_push, position-Some}
 use Rattle.std.proofs.lemmas.Slice.Eq.{bytes_eq-Decides}
 use Rattle.tables_keeper.specs.declared.cell.Column.{Column}
-use Rattle.tables_keeper.specs.Rows.{is_named, HasDistinctNames}
+use Rattle.tables_keeper.specs.declared.cell.Cell.TheVariants.{Null}
+use Rattle.tables_keeper.specs.Rows.{is_named, HasDistinctNames, without_id, with_id}
 use Rattle.tables_keeper.proofs.Places.{position_none}
 
 abbrev name_of : Column → List ℕ
@@ -32,3 +35,38 @@ distinct_push columns column apart none =
           let below : k < length columns = omega (arith, length-map columns name_of) in
           let e : get_or (map name_of columns) k d ≡ (get_or columns k column).name = get_or-map name_of columns k column d below in
           rw e (position_none (is_named column.name) columns none k column below)))
+
+map_filter : (p : List ℕ → Bool) (columns : List Column) → map name_of (filter (λ column. p column.name) columns) ≡ filter p (map name_of columns)
+map_filter p [] = refl
+map_filter p (column ∷ columns) =
+    elim (p column.name) as (λ b. map name_of (cond b (column ∷ filter (λ c. p c.name) columns) (filter (λ c. p c.name) columns)) ≡ cond b (column.name ∷ filter p (map name_of columns)) (filter p (map name_of columns))) [
+      | true ↦ ap (λ (l : List (List ℕ)). column.name ∷ l) (map_filter p columns)
+      | false ↦ map_filter p columns
+    ]
+
+-- some of the columns
+pub distinct_without_id : (columns : List Column) → HasDistinctNames columns → HasDistinctNames (without_id columns)
+distinct_without_id columns apart =
+    subst (λ (l : List (List ℕ)). AllPairs (λ a b. bytes_eq a b ≡ false) l) (sym (map_filter (λ name. not (bytes_eq name (codes "id"))) columns))
+      (AllPairs-filter (λ a b. bytes_eq a b ≡ false) (λ name. not (bytes_eq name (codes "id"))) (map name_of columns) apart)
+
+-- two names differ from either side
+pub differ_flip : (a b : List ℕ) → bytes_eq a b ≡ false → bytes_eq b a ≡ false
+differ_flip a b apart = by (bytes_eq b a) refl
+  where
+    by : (v : Bool) → bytes_eq b a ≡ v → v ≡ false
+    by false e = refl
+    by true e =
+        let same : b ≡ a = (bytes_eq-Decides b a).0 e in
+        let whole : bytes_eq a b ≡ true = (bytes_eq-Decides a b).1 (sym same) in cc
+
+-- the id before columns that are not called so
+pub distinct_with_id : (id : ℕ) (columns : List Column) → HasDistinctNames columns → position (is_named (codes "id")) columns ≡ None → HasDistinctNames (with_id id columns)
+distinct_with_id id columns apart none =
+    AllPairs-cons (λ a b. bytes_eq a b ≡ false) (codes "id") (map name_of columns)
+      (λ k d within.
+        let below : k < length columns = omega (arith, length-map columns name_of) in
+        let column = get_or columns k (record { name = []; cell = Null }) in
+        let e : get_or (map name_of columns) k d ≡ column.name = get_or-map name_of columns k (record { name = []; cell = Null }) d below in
+        rw e (differ_flip column.name (codes "id") (position_none (is_named (codes "id")) columns none k (record { name = []; cell = Null }) below)))
+      apart

@@ -38,6 +38,35 @@ fn place_of(columns: &[Column], name: &[u8]) -> Option<usize>
         .position(|column| column.name.as_slice() == name)
 }
 
+/// Copies of the columns but `id`.
+fn copies_without_id(alloc: Global, columns: &[Column]) -> Result<Vec<Column>, AllocError>
+    ensures { IfOk result (λ copies. copies.items ≡ without_id columns.now) }
+{
+    let mut copies = Vec::with_capacity(alloc, columns.len())?;
+    for column in columns {
+        if column.name.as_slice() != ID {
+            copies.push(column.copy(alloc)?)?;
+        }
+    }
+    Ok(copies)
+}
+
+/// The id as a column, and copies of the columns behind it.
+fn copies_with_id(alloc: Global, id: u64, columns: &[Column]) -> Result<Vec<Column>, AllocError>
+    requires { id < 2 ^ 63 }
+    ensures { IfOk result (λ copies. copies.items ≡ with_id id columns.now) }
+{
+    let mut copies = Vec::new(alloc);
+    copies.push(Column {
+        name: CellText::from_slice(alloc, ID)?,
+        cell: Cell::Int(id as i64),
+    })?;
+    for column in columns {
+        copies.push(column.copy(alloc)?)?;
+    }
+    Ok(copies)
+}
+
 impl RowCells {
     pub fn new(alloc: Global) -> Self
         ensures { result ≡ [] }
@@ -91,6 +120,37 @@ impl RowCells {
             columns.push(column.copy(alloc)?)?;
         }
         Ok(RowCells { columns })
+    }
+
+    /// A copy without the column `id`.
+    pub fn without_id(&self, alloc: Global) -> Result<Self, AllocError>
+        ensures { IfOk result (λ row. row ≡ without_id self.now) }
+    {
+        let columns = copies_without_id(alloc, &self.columns)?;
+        Ok(RowCells { columns })
+    }
+
+    /// A copy with its id as the first column.
+    pub fn with_id(&self, alloc: Global, id: u64) -> Result<Self, AllocError>
+        requires number { id < 2 ^ 63 }
+        requires plain { position (is_named (codes "id")) self.now ≡ None }
+        ensures { IfOk result (λ row. row ≡ with_id id self.now) }
+    {
+        let columns = copies_with_id(alloc, id, &self.columns)?;
+        Ok(RowCells { columns })
+    }
+
+    /// A copy with the columns of a given row but its column `id`: those that are there in place, the others last.
+    pub fn merged(&self, alloc: Global, given: &RowCells) -> Result<Self, AllocError>
+        ensures { IfOk result (λ row. row ≡ merged self.now given.now) }
+    {
+        let mut row = self.copy(alloc)?;
+        for column in given.columns() {
+            if column.name.as_slice() != ID {
+                row.put(column.copy(alloc)?)?;
+            }
+        }
+        Ok(row)
     }
 
     /// The size in bytes that limits count, or the type's last number where it is more.
