@@ -173,17 +173,15 @@ rising_insert tables new rising absent =
           | inr same ↦ let e : prefix_len test tables ≡ k = omega arith in rw e at stops
         ]
 
-pub tables_insert : (tables : List TableData) (new : TableData) (rows size : ℕ) → IsTables tables rows size → table_place new.name tables ≡ None → IsTables (insert tables (tables_before new.name tables) new) (rows + length new.rows) (size + table_size new.rows)
-tables_insert tables new rows size old absent =
+pub tables_insert : (tables : List TableData) (new : TableData) (rows size rows' size' : ℕ) → IsTables tables rows size → table_place new.name tables ≡ None → rows' ≡ rows + length new.rows → size' ≡ size + table_size new.rows → IsTables (insert tables (tables_before new.name tables) new) rows' size'
+tables_insert tables new rows size rows' size' old absent count total =
     let moved = IsPermutation-insert tables (tables_before new.name tables) new in
+    let rows_moved = sum_by-IsPermutation (λ (t : TableData). length t.rows) _ _ moved in
+    let rows_more = sum_by-cons (λ (t : TableData). length t.rows) new tables in
+    let size_moved = sum_by-IsPermutation (λ (t : TableData). table_size t.rows) _ _ moved in
+    let size_more = sum_by-cons (λ (t : TableData). table_size t.rows) new tables in
     record {
       rising = rising_insert tables new old.rising absent;
-      counted =
-        let e = sum_by-IsPermutation (λ (t : TableData). length t.rows) _ _ moved in
-        let f = sum_by-cons (λ (t : TableData). length t.rows) new tables in
-        omega (arith, old.counted, e, f);
-      sized =
-        let e = sum_by-IsPermutation (λ (t : TableData). table_size t.rows) _ _ moved in
-        let f = sum_by-cons (λ (t : TableData). table_size t.rows) new tables in
-        omega (arith, old.sized, e, f);
+      counted = omega (arith, old.counted, rows_moved, rows_more);
+      sized = omega (arith, old.sized, size_moved, size_more);
     }

@@ -1,6 +1,7 @@
 -- The tables, and what each operation on them answers and leaves.
 use Rattle.std.specs.Prelude.{◌≡◌, ℕ, ◌+◌, ◌-◌, Bool, true, false, ◌&&◌, nat_lt, nat_le, if◌then◌else◌, List, [], ◌∷◌, map, filter, length, sum_by, slice_set, slice_index_or, Option, Some, None, ℤ, pos}
 use Rattle.std.specs.List.{position, prefix_len, insert, remove, list_any, AllPairs}
+use Rattle.std.specs.Option.{option_map}
 use Rattle.std.specs.Ordering.{nat_cmp, is_lt}
 use Rattle.std.specs.Cmp.Lexicographic.{slice_cmp}
 use Rattle.std.specs.Str.{bytes_eq}
@@ -44,6 +45,10 @@ tables_before name tables = prefix_len (λ table. is_lt (name_cmp table.name nam
 
 abbrev pub no_table : TableData
 no_table = record { name = []; top = 0; rows = [] }
+
+-- a table of this name without rows
+abbrev pub new_table : List ℕ → TableData
+new_table name = record { name = name; top = 0; rows = [] }
 
 abbrev pub table_at : ℕ → List TableData → TableData
 table_at place tables = slice_index_or tables place no_table
@@ -124,19 +129,25 @@ abbrev pub is_duplicate : List ℕ → List Column → List Row → Bool
 is_duplicate unique cells rows = nat_lt 0 (length unique) && has_cell unique (cell_at unique cells) rows
 
 -- a row that makes its table
+abbrev pub fits_first : List TableData → List Column → Bool
+fits_first tables cells = nat_lt (length tables) MAX_TABLES && row_fits cells && fits_one_more tables cells
+
 abbrev pub insert_first : List ℕ → List Column → List TableData → Outcome
 insert_first name cells tables =
-    if nat_lt (length tables) MAX_TABLES && row_fits cells && fits_one_more tables cells
+    if fits_first tables cells
       then changed (Id (pos 1)) (Put name (pos 1) cells) before.NoTable
-        (insert tables (tables_before name tables) (with_new_row cells (record { name = name; top = 0; rows = [] })))
+        (insert tables (tables_before name tables) (with_new_row cells (new_table name)))
       else refused Limit tables
 
 -- a row of the table at a place
+abbrev pub fits_next : ℕ → List TableData → List Column → Bool
+fits_next t tables cells = nat_lt (table_at t tables).top MAX_ID && row_fits cells && fits_one_more tables cells
+
 abbrev pub insert_next : ℕ → List ℕ → List Column → List ℕ → List TableData → Outcome
 insert_next t name cells unique tables =
     if is_duplicate unique cells (table_at t tables).rows
       then refused Duplicate tables
-      else (if nat_lt (table_at t tables).top MAX_ID && row_fits cells && fits_one_more tables cells
+      else (if fits_next t tables cells
         then changed (Id (pos ((table_at t tables).top + 1))) (Put name (pos ((table_at t tables).top + 1)) cells) before.NoRow
           (slice_set tables t (with_new_row cells (table_at t tables)))
         else refused Limit tables)
@@ -149,9 +160,12 @@ abbrev pub inserted : List ℕ → List Column → List ℕ → List TableData �
 inserted name given unique tables = insert_at (table_place name tables) name (without_id given) unique tables
 
 -- other cells in a row
+abbrev pub fits_in_place : List Column → List Column → List TableData → Bool
+fits_in_place old new tables = row_fits new && nat_le (total_size tables - row_size old + row_size new) MAX_SIZE
+
 abbrev pub update_at : ℕ → ℕ → List ℕ → ℤ → List Column → List Column → List TableData → Outcome
 update_at t r name id old new tables =
-    if row_fits new && nat_le (total_size tables - row_size old + row_size new) MAX_SIZE
+    if fits_in_place old new tables
       then changed Done (Put name id new) (before.Row old) (slice_set tables t (with_cells r new (table_at t tables)))
       else refused Limit tables
 
@@ -176,6 +190,10 @@ step (Insert name given unique) tables = inserted name given unique tables
 step (Update name id given) tables = updated name id given tables
 step (Delete name id) tables = deleted name id tables
 
+-- the change of an outcome
+abbrev pub change_of : Outcome → Option Change
+change_of outcome = option_map (λ made. made.change) outcome.made
+
 -- ---- what holds of all tables together
 
 -- the names rise
@@ -189,7 +207,5 @@ pub record IsTables (tables : List TableData) (rows size : ℕ) : Type 0 where
   pub sized : size ≡ total_size tables
 
 -- a step in memory is this outcome
-pub record IsStep (outcome : Outcome) (answer : Step) (tables : List TableData) : Type 0 where
-  pub reply : answer.reply ≡ outcome.reply
-  pub made : answer.made ≡ outcome.made
-  pub tables_after : tables ≡ outcome.tables
+abbrev pub IsStep : Outcome → Step → List TableData → Type 0
+IsStep outcome answer tables = outcome ≡ record { tables = tables; reply = answer.reply; made = answer.made }
