@@ -5,7 +5,7 @@ use Rattle.std.proofs.lemmas.Bool.{cases_lt}
 use Rattle.std.proofs.lemmas.Bool.Decides.{nat_tests}
 use Rattle.std.proofs.lemmas.List.Sums.{prefix_len_is, prefix_len_passes, prefix_len-le-length}
 
-not_passed : (b : Bool) → not b ≡ true → b ≡ false
+pub not_passed : (b : Bool) → not b ≡ true → b ≡ false
 not_passed true h = cc
 not_passed false h = refl
 

@@ -1,16 +1,17 @@
 -- Rows: what keeps their names apart.
-use Rattle.std.proofs.Common.{◌≡◌, ℕ, ◌<◌, Bool, true, false, Some, None, List, [], ◌∷◌, ◌++◌, length, get_or, set, map, not, cond, codes, pos, refl, sym, ap, ◌∙◌, subst, arith}
-use Rattle.std.specs.List.{position, AllPairs}
+use Rattle.std.proofs.Common.{◌≡◌, ℕ, ◌<◌, Bool, true, false, Some, None, Option, List, [], ◌∷◌, ◌++◌, length, get_or, set, map, not, cond, codes, pos, refl, sym, ap, ◌∙◌, subst, arith}
+use Rattle.std.specs.List.{position, AllPairs, fold}
 use Rattle.std.specs.Str.{bytes_eq}
 use Rattle.std.proofs.lemmas.List.{map-set, set-get_or, map_push, get_or-map, length-map}
 use Rattle.std.specs.List.{filter, All}
 use Rattle.std.proofs.lemmas.List.Kept.{AllPairs-filter, AllPairs-cons}
 use Rattle.std.proofs.lemmas.List.Quantifiers.{all_pairs_push, position-Some}
+use Rattle.std.proofs.lemmas.List.Elements.{All-set, All-push, All-head, All-tail, filter_passes}
 use Rattle.std.proofs.lemmas.Slice.Eq.{bytes_eq-Decides}
 use Rattle.tables_keeper.specs.declared.cell.Column.{Column}
 use Rattle.tables_keeper.specs.declared.cell.Cell.TheVariants.{Null}
-use Rattle.tables_keeper.specs.Rows.{is_named, HasDistinctNames, without_id, with_id}
-use Rattle.tables_keeper.proofs.Places.{position_none}
+use Rattle.tables_keeper.specs.Rows.{is_named, HasDistinctNames, without_id, with_id, put_at, put_column, merged}
+use Rattle.tables_keeper.proofs.Places.{position_none, position_missing, not_passed}
 
 abbrev name_of : Column → List ℕ
 name_of column = column.name
@@ -70,3 +71,37 @@ distinct_with_id id columns apart none =
         let e : get_or (map name_of columns) k d ≡ column.name = get_or-map name_of columns k (record { name = []; cell = Null }) d below in
         rw e (differ_flip column.name (codes "id") (position_none (is_named (codes "id")) columns none k (record { name = []; cell = Null }) below)))
       apart
+
+-- ---- rows without a column `id`
+
+abbrev is_other : Column → Type 0
+is_other column = is_named (codes "id") column ≡ false
+
+no_column : Column
+no_column = record { name = []; cell = Null }
+
+all_other : (columns : List Column) → position (is_named (codes "id")) columns ≡ None → All is_other columns
+all_other columns none k d within = position_none (is_named (codes "id")) columns none k d within
+
+none_named : (columns : List Column) → All is_other columns → position (is_named (codes "id")) columns ≡ None
+none_named columns all = position_missing (is_named (codes "id")) columns no_column (λ k within. all k no_column within)
+
+other_put : (place : Option ℕ) (columns : List Column) (column : Column) → All is_other columns → is_other column → All is_other (put_at place columns column)
+other_put (Some place) columns column all one = All-set is_other columns place column one all
+other_put None columns column all one = All-push is_other columns column all one
+
+other_fold : (columns more : List Column) → All is_other columns → All (λ column. not (is_named (codes "id") column) ≡ true) more → All is_other (fold put_column columns more)
+other_fold columns [] all given = all
+other_fold columns (column ∷ more) all given =
+    let P : Column → Type 0 = λ c. not (is_named (codes "id") c) ≡ true in
+    let one : is_other column = not_passed (is_named (codes "id") column) (All-head P column more given) in
+    other_fold (put_column columns column) more (other_put (position (is_named column.name) columns) columns column all one) (All-tail P column more given)
+
+pub plain_without_id : (columns : List Column) → position (is_named (codes "id")) (without_id columns) ≡ None
+plain_without_id columns =
+    let passes = filter_passes (λ column. not (is_named (codes "id") column)) columns in
+    none_named (without_id columns) (λ k d within. not_passed _ (passes k d within))
+
+pub plain_merged : (columns given : List Column) → position (is_named (codes "id")) columns ≡ None → position (is_named (codes "id")) (merged columns given) ≡ None
+plain_merged columns given none =
+    none_named (merged columns given) (other_fold columns (without_id given) (all_other columns none) (filter_passes (λ column. not (is_named (codes "id") column)) given))

@@ -1,5 +1,7 @@
 -- The counts of all tables after a change of one.
-use Rattle.std.proofs.Common.{◌≡◌, ℕ, ◌+◌, ◌-◌, ◌<◌, ◌≤◌, ◌^◌, min, List, [], ◌∷◌, ◌++◌, length, get_or, set, None, IsTrue, refl, arith}
+use Rattle.std.proofs.Common.{◌≡◌, ℕ, ◌+◌, ◌-◌, ◌<◌, ◌≤◌, ◌^◌, min, List, [], ◌∷◌, ◌++◌, length, get_or, set, None, IsTrue, Bool, true, ◌&&◌, nat_le, refl, arith, sym, ap, ◌∙◌}
+use Rattle.std.proofs.lemmas.Bool.Decides.{nat_tests}
+use Rattle.tables_keeper.specs.declared.limits.TheConstants.{MAX_ROW_SIZE, MAX_SIZE}
 use Rattle.std.specs.List.{insert, remove, sum_by}
 use Rattle.std.proofs.lemmas.List.{length-set, length_push, get_or_default}
 use Rattle.std.proofs.lemmas.List.Edits.{length-remove}
@@ -9,7 +11,7 @@ use Rattle.tables_keeper.specs.declared.cell.Column.{Column}
 use Rattle.tables_keeper.specs.declared.table.Row.{Row}
 use Rattle.tables_keeper.specs.Rows.{row_size}
 use Rattle.tables_keeper.specs.TableData.{TableData, table_size, no_row, with_new_row, with_cells, without_row}
-use Rattle.tables_keeper.specs.Tables.{IsTables, table_at, row_at, no_table, new_table, table_place, tables_before, row_count, total_size, fits_one_more}
+use Rattle.tables_keeper.specs.Tables.{IsTables, table_at, row_at, no_table, new_table, table_place, tables_before, row_count, total_size, fits_one_more, row_fits, fits_in_place}
 use Rattle.tables_keeper.proofs.NameLemmas.{tables_set, tables_insert}
 use Rattle.tables_keeper.proofs.ViewLemmas.{room_parts}
 
@@ -59,3 +61,17 @@ removed_tables tables place row rows size counted old within inside small is =
     let moved = sum_by-IsPermutation size_of _ _ (IsPermutation-remove table.rows row gone inside (get_or_default table.rows row no_row gone inside)) in
     let larger = sum_by-cons size_of gone (remove table.rows row) in
     tables_set tables place (without_row row table) rows size (rows - 1) (size - counted) old within refl (omega (arith, fewer, all, old.counted)) (omega (arith, moved, larger, least, old.sized))
+
+row_fits_size : (cells : List Column) → row_fits cells ≡ true → row_size cells ≤ MAX_ROW_SIZE
+row_fits_size cells fits = grind (arith, nat_tests)
+
+capped : (n : ℕ) → nat_le (min n (2 ^ 64 - 1)) MAX_SIZE ≡ nat_le n MAX_SIZE
+capped n = grind (arith, nat_tests)
+
+pub in_place_is : (tables : List TableData) (place row : ℕ) (cells : List Column) (rows size counted_old counted : ℕ) → IsTables tables rows size → place < length tables → row < length (table_at place tables).rows → size < 2 ^ 64 → counted_old ≡ min (row_size (row_at row (table_at place tables)).cells) (2 ^ 64 - 1) → counted ≡ min (row_size cells) (2 ^ 64 - 1) → row_fits cells ≡ true → nat_le (min (size - counted_old + counted) (2 ^ 64 - 1)) MAX_SIZE ≡ fits_in_place (row_at row (table_at place tables)).cells cells tables
+in_place_is tables place row cells rows size counted_old counted old within inside small is_old is fits =
+    let gone = row_at row (table_at place tables) in
+    let least = row_within tables place row rows size old within inside in
+    let short = row_fits_size cells fits in
+    let same : size - counted_old + counted ≡ total_size tables - row_size gone.cells + row_size cells = omega (arith, least, short, old.sized) in
+    capped (size - counted_old + counted) ∙ ap (λ n. nat_le n MAX_SIZE) same ∙ ap (λ b. b && nat_le (total_size tables - row_size gone.cells + row_size cells) MAX_SIZE) (sym fits)

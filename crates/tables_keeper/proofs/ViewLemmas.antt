@@ -1,5 +1,5 @@
 -- Tables in memory: one of them in its place.
-use Rattle.std.proofs.Common.{◌≡◌, ℕ, ◌<◌, List, length, get_or, set, map, take, drop, ◌++◌, ◌∷◌, ◌≤◌, ◌+◌, arith, IsTrue, refl, sym, ap, ◌∙◌}
+use Rattle.std.proofs.Common.{◌≡◌, ℕ, ◌<◌, List, length, get_or, set, map, take, drop, ◌++◌, ◌∷◌, ◌≤◌, ◌+◌, arith, IsTrue, ◌-◌, Bool, true, refl, sym, ap, ◌∙◌}
 use Rattle.std.proofs.lemmas.List.{map-set, set-get_or, get_or-map, map-append, take-map, drop-map}
 use Rattle.std.specs.List.{insert}
 use Rattle.std.proofs.lemmas.Bool.Decides.{nat_tests}
@@ -7,7 +7,7 @@ use Rattle.tables_keeper.specs.declared.cell.Column.{Column}
 use Rattle.tables_keeper.specs.declared.limits.TheConstants.{MAX_ROWS, MAX_SIZE}
 use Rattle.tables_keeper.specs.Rows.{row_size}
 use Rattle.tables_keeper.specs.TableData.{TableData, TableView}
-use Rattle.tables_keeper.specs.Tables.{tables_of, table_at, no_table, row_count, total_size, fits_one_more}
+use Rattle.tables_keeper.specs.Tables.{tables_of, table_at, no_table, row_count, total_size, fits_one_more, fits_in_place}
 
 abbrev pub content : TableView → TableData
 content view = view.content
@@ -35,3 +35,6 @@ insert_view views place new =
 -- what room for a row means
 pub room_parts : (tables : List TableData) (cells : List Column) → IsTrue (fits_one_more tables cells) → (row_count tables < MAX_ROWS) × (total_size tables + row_size cells ≤ MAX_SIZE)
 room_parts tables cells fits = grind (arith, nat_tests)
+
+pub in_place_parts : (tables : List TableData) (old new : List Column) → fits_in_place old new tables ≡ true → total_size tables - row_size old + row_size new ≤ MAX_SIZE
+in_place_parts tables old new fits = grind (arith, nat_tests)

@@ -1,7 +1,7 @@
 // One table: its rows in the order of their ids.
-ghost use Rattle.std.specs.Prelude.{◌≡◌, ℕ, ◌+◌, ◌-◌, ◌<◌, ◌≤◌, ◌^◌, [], ◌∷◌, ◌++◌, ◌==◌, length, codes, None, OnOk, OnErr, IfOk, slice_index_or, slice_set};
+ghost use Rattle.std.specs.Prelude.{◌≡◌, ℕ, ◌+◌, ◌-◌, ◌<◌, ◌≤◌, ◌^◌, [], ◌∷◌, ◌++◌, ◌==◌, length, codes, None, OnOk, OnErr, IfOk, min, slice_index_or, slice_set};
 ghost use Rattle.std.specs.List.{position, insert, remove, All};
-ghost use Rattle.tables_keeper.specs.Rows.{is_named, with_id};
+ghost use Rattle.tables_keeper.specs.Rows.{is_named, merged, row_size, with_id};
 ghost use Rattle.tables_keeper.specs.TableData.{TableView, HasRisingIds, no_row, row_place, rows_before, shown, with_new_row, with_cells, without_row, without_last, with_row_at, with_put, with_raised, with_top, IsGiven};
 
 use crate::{CellText, MAX_ID, RowCells};
@@ -93,6 +93,29 @@ impl Table {
     {
         let row = &self.rows[place];
         row.cells.with_id(alloc, row.id)
+    }
+
+    /// The size of a row.
+    pub fn size_at(&self, place: usize) -> u64
+        requires { place < length self.now.content.rows }
+        ensures { result ≡ min (row_size (slice_index_or self.now.content.rows place no_row).cells) (2 ^ 64 - 1) }
+    {
+        self.rows[place].cells.size()
+    }
+
+    /// A copy of a row's cells with the columns of a given row.
+    pub fn merged(
+        &self,
+        alloc: Global,
+        place: usize,
+        given: &RowCells,
+    ) -> Result<RowCells, AllocError>
+        requires { place < length self.now.content.rows }
+        ensures ok { IfOk result (λ row. row ≡ merged (slice_index_or self.now.content.rows place no_row).cells given.now) }
+        ensures plain { IfOk result (λ row. position (is_named (codes "id")) row ≡ None) }
+    {
+        let merged = self.rows[place].cells.merged(alloc, given)?;
+        Ok(merged)
     }
 
     /// Puts a new row last, under the next id.

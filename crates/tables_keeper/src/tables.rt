@@ -1,7 +1,7 @@
 // All tables, in the order of their names.
 ghost use Rattle.std.specs.Prelude.{◌≡◌, [], ◌+◌, ◌-◌, ◌≤◌, ◌<◌, length, codes, None, Some, IsTrue, IfOk, OnErr, OnOk, map, filter, slice_set, vec_len, ◌^◌};
 ghost use Rattle.std.specs.List.{position, insert};
-ghost use Rattle.tables_keeper.specs.Rows.{is_named, row_size, without_id};
+ghost use Rattle.tables_keeper.specs.Rows.{is_named, merged, row_size, without_id};
 ghost use Rattle.tables_keeper.specs.TableData.{row_place, shown, with_new_row, with_cells, without_row};
 ghost use Rattle.tables_keeper.specs.Tables.{HasRisingNames, tables_of, tables_before, table_place, table_at, row_at, got, all_of, found, answered, inserted, insert_first, insert_next, updated, update_at, deleted, step, change_of, IsStep, row_fits, fits_first, fits_next, fits_in_place, fits_one_more, total_size, new_table};
 
@@ -138,12 +138,11 @@ impl Tables {
         ensures tables { OnOk result (tables_of self.new ≡ (step op.now (tables_of self.old)).tables) }
         ensures err { OnErr result (tables_of self.new ≡ tables_of self.old) }
     {
-        let done = self.perform(alloc, op)?;
-        let change = match done.made {
-            Some(made) => Some(made.change),
-            None => None,
-        };
-        Ok((done.reply, change))
+        let Step { reply, made } = self.perform(alloc, op)?;
+        match made {
+            Some(Made { change, before: _ }) => Ok((reply, Some(change))),
+            None => Ok((reply, None)),
+        }
     }
 
     /// Does one operation, and hands out its change with what stood before it.
@@ -248,9 +247,29 @@ impl Tables {
         let Some(row) = self.list[place].place_of(id) else {
             return Ok(refused(TableRefusal::NoRow));
         };
-        let old = &self.list[place].rows()[row].cells;
-        let new = old.merged(alloc, given)?;
-        if !self.fits_in_place(old, &new) {
+        self.update_at(alloc, place, row, name, id, given)
+    }
+
+    /// Puts the columns of a given row into a row of the table at a place.
+    fn update_at(
+        &mut self,
+        alloc: Global,
+        place: usize,
+        row: usize,
+        name: &CellText,
+        id: i64,
+        given: &RowCells,
+    ) -> Result<Step, AllocError>
+        requires place { place < length self.old }
+        requires row { row < length (table_at place (tables_of self.old)).rows }
+        ensures ok { IfOk result (λ answer. IsStep (update_at place row name.now id
+            (row_at row (table_at place (tables_of self.old))).cells
+            (merged (row_at row (table_at place (tables_of self.old))).cells given.now)
+            (tables_of self.old)) answer (tables_of self.new)) }
+        ensures err { OnErr result (tables_of self.new ≡ tables_of self.old) }
+    {
+        let new = self.list[place].merged(alloc, row, given)?;
+        if !self.fits_in_place(place, row, &new) {
             return Ok(refused(TableRefusal::Limit));
         }
         let change = put(alloc, name, id, &new)?;
@@ -296,12 +315,13 @@ impl Tables {
         self.list[place].top() < MAX_ID && row_fits(cells) && self.fits_one_more(cells)
     }
 
-    fn fits_in_place(&self, old: &RowCells, new: &RowCells) -> bool
-        requires { row_size old.now ≤ total_size (tables_of self.now) }
-        ensures { result ≡ fits_in_place old.now new.now (tables_of self.now) }
+    fn fits_in_place(&self, place: usize, row: usize, new: &RowCells) -> bool
+        requires place { place < length self.now }
+        requires row { row < length (table_at place (tables_of self.now)).rows }
+        ensures { result ≡ fits_in_place (row_at row (table_at place (tables_of self.now))).cells new.now (tables_of self.now) }
     {
-        row_fits(new)
-            && self.size.saturating_sub(old.size()).saturating_add(new.size()) <= MAX_SIZE
+        let old = self.list[place].size_at(row);
+        row_fits(new) && self.size.saturating_sub(old).saturating_add(new.size()) <= MAX_SIZE
     }
 
     /// Puts a row last in the table at a place, under the next id.
