@@ -1,9 +1,9 @@
 -- Tables in the order of their names.
-use Rattle.std.proofs.Common.{◌≡◌, ◌≢◌, ℕ, ◌+◌, ◌<◌, ◌≤◌, Bool, true, false, cond, Some, None, Option, List, [], ◌∷◌, length, get_or, map, refl, sym, ap, ◌∙◌, subst, arith, inl, inr, ltb, not, set}
-use Rattle.std.specs.List.{position, position_or_len, prefix_len, AllPairs, insert, sum_by}
+use Rattle.std.proofs.Common.{◌≡◌, ℕ, ◌+◌, ◌<◌, ◌≤◌, Bool, true, false, cond, Some, None, List, [], ◌∷◌, length, get_or, map, refl, ap, ◌∙◌, subst, arith, inl, inr, ltb, not, set}
+use Rattle.std.specs.List.{position, position_or_len, prefix_len, AllPairs, insert}
 use Rattle.std.specs.List.Sorted.{IsPartitionedBy}
 use Rattle.std.specs.Str.{bytes_eq}
-use Rattle.std.specs.Ordering.{nat_cmp, is_lt, ordering_reverse, is_eq}
+use Rattle.std.specs.Ordering.{is_lt, ordering_reverse, is_eq}
 use Rattle.std.specs.declared.cmp.Ordering.{Ordering}
 use Rattle.std.specs.declared.cmp.Ordering.TheVariants.{Less, Equal, Greater}
 use Rattle.std.specs.Cmp.Lexicographic.{nat_list_cmp_total, texts_ties}
@@ -115,31 +115,31 @@ pub table_found : (name : List ℕ) (views : List TableView) (place : ℕ) (d : 
 table_found name views place d counted within here =
     let from : place ≡ prefix_len (is_below name) views = counted ∙ tables_before-views name views in
     table_place-views name views ∙ position_is (has_name name) views place d within here (λ k below.
-      below_differs (get_or views k d).content.name name (prefix_len_passes (is_below name) views k d (omega arith)))
+    below_differs (get_or views k d).content.name name (prefix_len_passes (is_below name) views k d (omega arith)))
 
 -- and no table at all, if it has another
 pub table_missing : (name : List ℕ) (views : List TableView) (place : ℕ) (d : TableView) → HasRisingNames (tables_of views) → place ≡ tables_before name (tables_of views) → (place < length views → has_name name (get_or views place d) ≡ false) → table_place name (tables_of views) ≡ None
 table_missing name views place d rising counted other =
     let from : place ≡ prefix_len (is_below name) views = counted ∙ tables_before-views name views in
     table_place-views name views ∙ position_missing (has_name name) views d (λ k within.
-      elim (cases_lt k place) [
-        | inl below ↦ below_differs (get_or views k d).content.name name (prefix_len_passes (is_below name) views k d (omega arith))
-        | inr past ↦ elim (cases_lt place k) [
-          | inl after ↦
+    elim (cases_lt k place) [
+      | inl below ↦ below_differs (get_or views k d).content.name name (prefix_len_passes (is_below name) views k d (omega arith))
+      | inr past ↦ elim (cases_lt place k) [
+        | inl after ↦
             let stops : is_below name (get_or views (prefix_len (is_below name) views) d) ≡ false = prefix_len_stops (is_below name) views d (omega arith) in
             above_differs (get_or views place d).content.name (get_or views k d).content.name name (rising_views views rising place k d after within) (rw from stops)
-          | inr same ↦ let e : k ≡ place = omega arith in rw e (other (omega arith))
-        ]
-      ])
+        | inr same ↦ let e : k ≡ place = omega arith in rw e (other (omega arith))
+      ]
+    ])
 
 -- ---- one table in the place of another of its name
 
 name_set : (tables : List TableData) (place : ℕ) (new d : TableData) (k : ℕ) → place < length tables → new.name ≡ (get_or tables place new).name → (get_or (set tables place new) k d).name ≡ (get_or tables k d).name
 name_set tables place new d k within same = elim (cases_eq k place) [
   | inl at ↦
-    let e : get_or (set tables place new) place d ≡ new = get_or-set_same tables place new d within in
-    let f : get_or tables place new ≡ get_or tables place d = get_or_default tables place new d within in
-    rw at (ap (λ (t : TableData). t.name) e ∙ same ∙ ap (λ (t : TableData). t.name) f)
+      let e : get_or (set tables place new) place d ≡ new = get_or-set_same tables place new d within in
+      let f : get_or tables place new ≡ get_or tables place d = get_or_default tables place new d within in
+      rw at (ap (λ (t : TableData). t.name) e ∙ same ∙ ap (λ (t : TableData). t.name) f)
   | inr other ↦ ap (λ (t : TableData). t.name) (get_or-set_other tables place k new d other)
 ]
 
@@ -159,10 +159,10 @@ rising_insert : (tables : List TableData) (new : TableData) → HasRisingNames t
 rising_insert tables new rising absent =
     let test : TableData → Bool = λ t. is_lt (name_cmp t.name new.name) in
     AllPairs-insert (λ a b. name_cmp a.name b.name ≡ Less) tables (tables_before new.name tables) new (prefix_len-le-length test tables) rising
-      (λ k d below. is_less _ (prefix_len_passes test tables k d below))
-      (λ k d from within.
-        let other : bytes_eq (get_or tables k d).name new.name ≡ false = position_none (λ t. bytes_eq t.name new.name) tables absent k d within in
-        above_is (get_or tables k d).name new.name (not_below k d from within) other)
+    (λ k d below. is_less _ (prefix_len_passes test tables k d below))
+    (λ k d from within.
+    let other : bytes_eq (get_or tables k d).name new.name ≡ false = position_none (λ t. bytes_eq t.name new.name) tables absent k d within in
+    above_is (get_or tables k d).name new.name (not_below k d from within) other)
   where
     not_below : (k : ℕ) (d : TableData) → tables_before new.name tables ≤ k → k < length tables → is_lt (name_cmp (get_or tables k d).name new.name) ≡ false
     not_below k d from within =

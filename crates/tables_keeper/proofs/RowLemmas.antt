@@ -1,5 +1,5 @@
 -- Rows: what keeps their names apart.
-use Rattle.std.proofs.Common.{◌≡◌, ℕ, ◌<◌, Bool, true, false, Some, None, Option, List, [], ◌∷◌, ◌++◌, length, get_or, set, map, not, cond, codes, pos, refl, sym, ap, ◌∙◌, subst, arith}
+use Rattle.std.proofs.Common.{◌≡◌, ℕ, ◌<◌, Bool, true, false, Some, None, Option, List, [], ◌∷◌, ◌++◌, length, get_or, set, map, not, cond, codes, refl, sym, ap, ◌∙◌, subst, arith}
 use Rattle.std.specs.List.{position, AllPairs, fold}
 use Rattle.std.specs.Str.{bytes_eq}
 use Rattle.std.proofs.lemmas.List.{map-set, set-get_or, map_push, get_or-map, length-map}
@@ -22,20 +22,20 @@ distinct_set columns place column apart found =
     let at = position-Some (is_named column.name) columns place column found in
     let same : (get_or columns place column).name ≡ column.name = (bytes_eq-Decides _ _).0 at.1 in
     let names : map name_of (set columns place column) ≡ map name_of columns =
-      map-set name_of columns place column
-      ∙ ap (λ name. set (map name_of columns) place name) (sym same ∙ sym (get_or-map name_of columns place column [] at.0))
-      ∙ set-get_or (map name_of columns) place [] in
+    map-set name_of columns place column
+    ∙ ap (λ name. set (map name_of columns) place name) (sym same ∙ sym (get_or-map name_of columns place column [] at.0))
+    ∙ set-get_or (map name_of columns) place [] in
     subst (λ (l : List (List ℕ)). AllPairs (λ a b. bytes_eq a b ≡ false) l) (sym names) apart
 
 -- a column of a new name
 pub distinct_push : (columns : List Column) (column : Column) → HasDistinctNames columns → position (is_named column.name) columns ≡ None → HasDistinctNames (columns ++ column ∷ [])
 distinct_push columns column apart none =
     subst (λ (l : List (List ℕ)). AllPairs (λ a b. bytes_eq a b ≡ false) l) (sym (map_push name_of columns column))
-      (all_pairs_push (λ a b. bytes_eq a b ≡ false) (map name_of columns) column.name apart
-        (λ k d within.
-          let below : k < length columns = omega (arith, length-map columns name_of) in
-          let e : get_or (map name_of columns) k d ≡ (get_or columns k column).name = get_or-map name_of columns k column d below in
-          rw e (position_none (is_named column.name) columns none k column below)))
+    (all_pairs_push (λ a b. bytes_eq a b ≡ false) (map name_of columns) column.name apart
+    (λ k d within.
+    let below : k < length columns = omega (arith, length-map columns name_of) in
+    let e : get_or (map name_of columns) k d ≡ (get_or columns k column).name = get_or-map name_of columns k column d below in
+    rw e (position_none (is_named column.name) columns none k column below)))
 
 map_filter : (p : List ℕ → Bool) (columns : List Column) → map name_of (filter (λ column. p column.name) columns) ≡ filter p (map name_of columns)
 map_filter p [] = refl
@@ -49,7 +49,7 @@ map_filter p (column ∷ columns) =
 pub distinct_without_id : (columns : List Column) → HasDistinctNames columns → HasDistinctNames (without_id columns)
 distinct_without_id columns apart =
     subst (λ (l : List (List ℕ)). AllPairs (λ a b. bytes_eq a b ≡ false) l) (sym (map_filter (λ name. not (bytes_eq name (codes "id"))) columns))
-      (AllPairs-filter (λ a b. bytes_eq a b ≡ false) (λ name. not (bytes_eq name (codes "id"))) (map name_of columns) apart)
+    (AllPairs-filter (λ a b. bytes_eq a b ≡ false) (λ name. not (bytes_eq name (codes "id"))) (map name_of columns) apart)
 
 -- two names differ from either side
 pub differ_flip : (a b : List ℕ) → bytes_eq a b ≡ false → bytes_eq b a ≡ false
@@ -65,12 +65,12 @@ differ_flip a b apart = by (bytes_eq b a) refl
 pub distinct_with_id : (id : ℕ) (columns : List Column) → HasDistinctNames columns → position (is_named (codes "id")) columns ≡ None → HasDistinctNames (with_id id columns)
 distinct_with_id id columns apart none =
     AllPairs-cons (λ a b. bytes_eq a b ≡ false) (codes "id") (map name_of columns)
-      (λ k d within.
-        let below : k < length columns = omega (arith, length-map columns name_of) in
-        let column = get_or columns k (record { name = []; cell = Null }) in
-        let e : get_or (map name_of columns) k d ≡ column.name = get_or-map name_of columns k (record { name = []; cell = Null }) d below in
-        rw e (differ_flip column.name (codes "id") (position_none (is_named (codes "id")) columns none k (record { name = []; cell = Null }) below)))
-      apart
+    (λ k d within.
+    let below : k < length columns = omega (arith, length-map columns name_of) in
+    let column = get_or columns k (record { name = []; cell = Null }) in
+    let e : get_or (map name_of columns) k d ≡ column.name = get_or-map name_of columns k (record { name = []; cell = Null }) d below in
+    rw e (differ_flip column.name (codes "id") (position_none (is_named (codes "id")) columns none k (record { name = []; cell = Null }) below)))
+    apart
 
 -- ---- rows without a column `id`
 

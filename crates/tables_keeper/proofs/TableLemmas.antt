@@ -1,7 +1,7 @@
 -- Rows in the order of their ids.
-use Rattle.std.proofs.Common.{◌≡◌, ◌≢◌, ℕ, negsuc,  ◌+◌, ◌-◌, ◌<◌, ◌≤◌, Bool, true, false, Some, None, List, [], ◌∷◌, ◌++◌, length, get_or, set, map, ltb, eqb, take, drop, refl, sym, ap, w64, of_z, to_z, ℤ, pos, Option, ◌∙◌, subst, arith, inl, inr}
+use Rattle.std.proofs.Common.{◌≡◌, ◌≢◌, ℕ, negsuc, ◌+◌, ◌-◌, ◌<◌, ◌≤◌, Bool, true, false, Some, None, List, ◌∷◌, length, get_or, ltb, eqb, take, drop, ℤ, pos, Option, subst, arith, inl, inr}
 use Rattle.std.specs.List.{position, prefix_len, AllPairs, All}
-use Rattle.std.specs.List.Sorted.{IsPartitionPoint, IsPartitionedBy, IsNonDecreasingBy}
+use Rattle.std.specs.List.Sorted.{IsPartitionPoint, IsNonDecreasingBy}
 use Rattle.std.proofs.lemmas.Bool.{cases_lt}
 use Rattle.std.proofs.lemmas.Bool.Decides.{nat_tests}
 use Rattle.std.proofs.lemmas.List.Sums.{prefix_len_is, prefix_len_passes, prefix_len_stops, prefix_len-le-length}
@@ -9,7 +9,6 @@ use Rattle.std.specs.List.{insert}
 use Rattle.std.proofs.lemmas.Bool.{cases_eq}
 use Rattle.std.proofs.lemmas.List.Edits.{length-insert, get_or-insert_below, get_or-insert_at, get_or-insert_above}
 use Rattle.std.proofs.lemmas.List.Elements.{All-append, All-cons, All-take, All-drop}
-use Rattle.std.proofs.lemmas.List.Sorted.{IsPartitionedBy-ltb}
 use lib.Signed.{lt_z}
 use Rattle.std.specs.Int.RustNames.{unsigned_abs}
 use Rattle.tables_keeper.specs.declared.table.Row.{Row}
@@ -31,19 +30,19 @@ prefix_len_at p xs i d within point = prefix_len_is p xs i d within (λ k below.
 pub found_at : (rows : List Row) (id place : ℕ) → place ≡ rows_before id rows → place < length rows → (get_or rows place no_row).id ≡ id → position (λ row. eqb row.id id) rows ≡ Some place
 found_at rows id place counted within here =
     position_is (λ row. eqb row.id id) rows place no_row within (grind (arith, nat_tests))
-      (λ k below.
-        let lower : ltb (get_or rows k no_row).id id ≡ true = prefix_len_passes (λ row. ltb row.id id) rows k no_row (omega arith) in
-        grind (arith, nat_tests))
+    (λ k below.
+    let lower : ltb (get_or rows k no_row).id id ≡ true = prefix_len_passes (λ row. ltb row.id id) rows k no_row (omega arith) in
+    grind (arith, nat_tests))
 
 -- and no row at all, if it is of another
 pub missing_at : (rows : List Row) (id place : ℕ) → HasRisingIds rows → place ≡ rows_before id rows → (place < length rows → (get_or rows place no_row).id ≢ id) → position (λ row. eqb row.id id) rows ≡ None
 missing_at rows id place rising counted other =
     position_missing (λ row. eqb row.id id) rows no_row (λ k within.
-      elim (cases_lt k place) [
-        | inl below ↦
+    elim (cases_lt k place) [
+      | inl below ↦
           let lower : ltb (get_or rows k no_row).id id ≡ true = prefix_len_passes (λ row. ltb row.id id) rows k no_row (omega arith) in
           grind (arith, nat_tests)
-        | inr from ↦
+      | inr from ↦
           let at_place : place < length rows = omega arith in
           let stops : ltb (get_or rows (rows_before id rows) no_row).id id ≡ false = prefix_len_stops (λ row. ltb row.id id) rows no_row (omega arith) in
           let differs : (get_or rows place no_row).id ≢ id = other at_place in
@@ -52,7 +51,7 @@ missing_at rows id place rising counted other =
             | inl after ↦ let above = rising place k no_row after within in grind (arith, nat_tests)
             | inr same ↦ let e : k ≡ place = omega arith in rw e (grind (arith, nat_tests))
           ]
-      ])
+    ])
 
 -- a number that is not negative, as the id of a row
 pub row_place_is : (z : ℤ) (rows : List Row) (r : Option ℕ) → lt_z z (pos 0) ≡ false → r ≡ position (λ row. eqb row.id (unsigned_abs z)) rows → r ≡ row_place z rows
@@ -87,19 +86,19 @@ pub rising_insert : (rows : List Row) (row : Row) → HasRisingIds rows → posi
 rising_insert rows row rising absent =
     let test : Row → Bool = λ r. ltb r.id row.id in
     AllPairs-insert (λ a b. a.id < b.id) rows (rows_before row.id rows) row (prefix_len-le-length test rows) rising
-      (λ k d below.
-        let lower : ltb (get_or rows k d).id row.id ≡ true = prefix_len_passes test rows k d below in
-        grind (arith, nat_tests))
-      (λ k d from within.
-        let stops : ltb (get_or rows (rows_before row.id rows) d).id row.id ≡ false = prefix_len_stops test rows d (omega arith) in
-        let other : eqb (get_or rows k d).id row.id ≡ false = position_none (λ r. eqb r.id row.id) rows absent k d within in
-        elim (cases_lt (rows_before row.id rows) k) [
-          | inl after ↦ let above = rising (rows_before row.id rows) k d after within in grind (arith, nat_tests)
-          | inr same ↦
-            let e : rows_before row.id rows ≡ k = omega arith in
-            let stops_here : ltb (get_or rows k d).id row.id ≡ false = rw e at stops in
-            grind (arith, nat_tests)
-        ])
+    (λ k d below.
+    let lower : ltb (get_or rows k d).id row.id ≡ true = prefix_len_passes test rows k d below in
+    grind (arith, nat_tests))
+    (λ k d from within.
+    let stops : ltb (get_or rows (rows_before row.id rows) d).id row.id ≡ false = prefix_len_stops test rows d (omega arith) in
+    let other : eqb (get_or rows k d).id row.id ≡ false = position_none (λ r. eqb r.id row.id) rows absent k d within in
+    elim (cases_lt (rows_before row.id rows) k) [
+      | inl after ↦ let above = rising (rows_before row.id rows) k d after within in grind (arith, nat_tests)
+      | inr same ↦
+          let e : rows_before row.id rows ≡ k = omega arith in
+          let stops_here : ltb (get_or rows k d).id row.id ≡ false = rw e at stops in
+          grind (arith, nat_tests)
+    ])
 
 pub given_insert : (top p : ℕ) (rows : List Row) (row : Row) → All (IsGiven top) rows → IsGiven top row → All (IsGiven top) (insert rows p row)
 given_insert top p rows row given one =

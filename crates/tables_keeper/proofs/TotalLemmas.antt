@@ -1,8 +1,8 @@
 -- The counts of all tables after a change of one.
-use Rattle.std.proofs.Common.{◌≡◌, ℕ, ◌+◌, ◌-◌, ◌<◌, ◌≤◌, ◌^◌, min, List, [], ◌∷◌, ◌++◌, length, get_or, set, None, IsTrue, Bool, true, ◌&&◌, nat_le, refl, arith, sym, ap, ◌∙◌}
+use Rattle.std.proofs.Common.{◌≡◌, ℕ, ◌+◌, ◌-◌, ◌<◌, ◌≤◌, ◌^◌, min, List, [], length, set, None, IsTrue, true, ◌&&◌, nat_le, refl, arith, sym, ap, ◌∙◌}
 use Rattle.std.proofs.lemmas.Bool.Decides.{nat_tests}
 use Rattle.tables_keeper.specs.declared.limits.TheConstants.{MAX_ROW_SIZE, MAX_SIZE}
-use Rattle.std.specs.List.{insert, remove, sum_by}
+use Rattle.std.specs.List.{insert, remove}
 use Rattle.std.proofs.lemmas.List.{length-set, length_push, get_or_default}
 use Rattle.std.proofs.lemmas.List.Edits.{length-remove}
 use Rattle.std.proofs.lemmas.List.Sums.{sum_by-set, sum_by-cons, sum_by_push, get_or-le-sum_by}
@@ -11,7 +11,7 @@ use Rattle.tables_keeper.specs.declared.cell.Column.{Column}
 use Rattle.tables_keeper.specs.declared.table.Row.{Row}
 use Rattle.tables_keeper.specs.Rows.{row_size}
 use Rattle.tables_keeper.specs.TableData.{TableData, table_size, no_row, with_new_row, with_cells, without_row}
-use Rattle.tables_keeper.specs.Tables.{IsTables, table_at, row_at, no_table, new_table, table_place, tables_before, row_count, total_size, fits_one_more, row_fits, fits_in_place}
+use Rattle.tables_keeper.specs.Tables.{IsTables, table_at, row_at, no_table, new_table, table_place, tables_before, total_size, fits_one_more, row_fits, fits_in_place}
 use Rattle.tables_keeper.proofs.NameLemmas.{tables_set, tables_insert}
 use Rattle.tables_keeper.proofs.ViewLemmas.{room_parts}
 

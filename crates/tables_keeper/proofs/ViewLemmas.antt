@@ -1,5 +1,5 @@
 -- Tables in memory: one of them in its place.
-use Rattle.std.proofs.Common.{◌≡◌, ℕ, ◌<◌, List, length, get_or, set, map, take, drop, ◌++◌, ◌∷◌, ◌≤◌, ◌+◌, arith, IsTrue, ◌-◌, Bool, true, refl, sym, ap, ◌∙◌}
+use Rattle.std.proofs.Common.{◌≡◌, ℕ, ◌<◌, List, length, get_or, set, map, take, drop, ◌++◌, ◌∷◌, ◌≤◌, ◌+◌, arith, IsTrue, ◌-◌, true, sym, ap, ◌∙◌}
 use Rattle.std.proofs.lemmas.List.{map-set, set-get_or, get_or-map, map-append, take-map, drop-map}
 use Rattle.std.specs.List.{insert}
 use Rattle.std.proofs.lemmas.Bool.Decides.{nat_tests}

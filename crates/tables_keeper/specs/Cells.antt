@@ -1,5 +1,5 @@
 -- Cells: their text form, by which they are compared, and their size.
-use Rattle.std.specs.Prelude.{ℕ, ◌+◌, Bool, true, false, List, [], length, codes}
+use Rattle.std.specs.Prelude.{ℕ, ◌+◌, true, false, List, [], length, codes}
 use Rattle.std.specs.Fmt.{signed_decimal}
 use Rattle.tables_keeper.specs.declared.cell.Cell.{Cell}
 use Rattle.tables_keeper.specs.declared.cell.Column.{Column}

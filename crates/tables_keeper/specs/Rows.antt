@@ -1,5 +1,5 @@
 -- Rows: lists of columns, none of them twice.
-use Rattle.std.specs.Prelude.{◌≡◌, ℕ, ◌+◌, Bool, true, false, not, List, [], ◌∷◌, ◌++◌, codes, Option, Some, None, sum_by, map, filter, fold, pos, slice_set}
+use Rattle.std.specs.Prelude.{◌≡◌, ℕ, Bool, false, not, List, [], ◌∷◌, ◌++◌, codes, Option, Some, None, sum_by, map, filter, fold, pos, slice_set}
 use Rattle.std.specs.List.{find, position, AllPairs}
 use Rattle.std.specs.Option.{option_map}
 use Rattle.std.specs.Str.{bytes_eq}

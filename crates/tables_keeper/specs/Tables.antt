@@ -1,7 +1,6 @@
 -- The tables, and what each operation on them answers and leaves.
-use Rattle.std.specs.Prelude.{◌≡◌, ℕ, ◌+◌, ◌-◌, Bool, true, false, ◌&&◌, nat_lt, nat_le, if◌then◌else◌, List, [], ◌∷◌, map, filter, length, sum_by, slice_set, slice_index_or, Option, Some, None, ℤ, pos}
-use Rattle.std.specs.List.{position, prefix_len, insert, remove, list_any, AllPairs}
-use Rattle.std.specs.Option.{option_map}
+use Rattle.std.specs.Prelude.{◌≡◌, ℕ, ◌+◌, ◌-◌, Bool, false, ◌&&◌, nat_lt, nat_le, if◌then◌else◌, List, [], map, filter, length, sum_by, slice_set, slice_index_or, Option, Some, None, ℤ, pos}
+use Rattle.std.specs.List.{position, prefix_len, insert, list_any, AllPairs}
 use Rattle.std.specs.Ordering.{nat_cmp, is_lt}
 use Rattle.std.specs.Cmp.Lexicographic.{slice_cmp}
 use Rattle.std.specs.Str.{bytes_eq}
@@ -18,9 +17,6 @@ use Rattle.tables_keeper.specs.declared.operation.TableReply.{TableReply}
 use Rattle.tables_keeper.specs.declared.operation.TableReply.TheVariants.{Row as OneRow, Rows, Id, Done, Refused}
 use Rattle.tables_keeper.specs.declared.operation.Change.{Change}
 use Rattle.tables_keeper.specs.declared.operation.Change.TheVariants.{Put, Drop}
-use Rattle.tables_keeper.specs.declared.operation.Before.{Before}
-use Rattle.tables_keeper.specs.declared.operation.Before.TheVariants as before
-use Rattle.tables_keeper.specs.declared.operation.Made.{Made}
 use Rattle.tables_keeper.specs.declared.operation.Step.{Step}
 use Rattle.tables_keeper.specs.declared.table.Row.{Row}
 use Rattle.tables_keeper.specs.Cells.{text_form}
@@ -78,16 +74,16 @@ fits_one_more tables cells = nat_lt (row_count tables) MAX_ROWS && nat_le (total
 pub record Outcome : Type 0 where
   pub tables : List TableData
   pub reply : TableReply
-  pub made : Option Made
+  pub change : Option Change
 
 abbrev pub refused : TableRefusal → List TableData → Outcome
-refused why tables = record { tables = tables; reply = Refused why; made = None }
+refused why tables = record { tables = tables; reply = Refused why; change = None }
 
 abbrev pub answered : TableReply → List TableData → Outcome
-answered reply tables = record { tables = tables; reply = reply; made = None }
+answered reply tables = record { tables = tables; reply = reply; change = None }
 
-abbrev pub changed : TableReply → Change → Before → List TableData → Outcome
-changed reply change old tables = record { tables = tables; reply = reply; made = Some (record { change = change; before = old }) }
+abbrev pub changed : TableReply → Change → List TableData → Outcome
+changed reply change tables = record { tables = tables; reply = reply; change = Some change }
 
 -- goes on with a table, if it is there
 abbrev pub on_table : Option ℕ → List TableData → (ℕ → Outcome) → Outcome
@@ -102,13 +98,13 @@ on_row None tables next = refused NoRow tables
 abbrev pub got : List ℕ → ℤ → List TableData → Outcome
 got name id tables =
     on_table (table_place name tables) tables (λ t.
-      on_row (row_place id (table_at t tables).rows) tables (λ r.
-        answered (OneRow (shown (row_at r (table_at t tables)))) tables))
+    on_row (row_place id (table_at t tables).rows) tables (λ r.
+    answered (OneRow (shown (row_at r (table_at t tables)))) tables))
 
 abbrev pub all_of : List ℕ → List TableData → Outcome
 all_of name tables =
     on_table (table_place name tables) tables (λ t.
-      answered (Rows (map shown (table_at t tables).rows)) tables)
+    answered (Rows (map shown (table_at t tables).rows)) tables)
 
 -- the rows that have this text form at a column, the id among the columns
 abbrev pub rows_with_text : List ℕ → List ℕ → List Row → List (List Column)
@@ -117,7 +113,7 @@ rows_with_text column text rows = filter (has_text column text) (map shown rows)
 abbrev pub found : List ℕ → List ℕ → List ℕ → List TableData → Outcome
 found name column text tables =
     on_table (table_place name tables) tables (λ t.
-      answered (Rows (rows_with_text column text (table_at t tables).rows)) tables)
+    answered (Rows (rows_with_text column text (table_at t tables).rows)) tables)
 
 -- whether a row has the text form of a cell at a column
 abbrev pub has_cell : List ℕ → Option Cell → List Row → Bool
@@ -135,9 +131,9 @@ fits_first tables cells = nat_lt (length tables) MAX_TABLES && row_fits cells &&
 abbrev pub insert_first : List ℕ → List Column → List TableData → Outcome
 insert_first name cells tables =
     if fits_first tables cells
-      then changed (Id (pos 1)) (Put name (pos 1) cells) before.NoTable
-        (insert tables (tables_before name tables) (with_new_row cells (new_table name)))
-      else refused Limit tables
+    then changed (Id (pos 1)) (Put name (pos 1) cells)
+    (insert tables (tables_before name tables) (with_new_row cells (new_table name)))
+    else refused Limit tables
 
 -- a row of the table at a place
 abbrev pub fits_next : ℕ → List TableData → List Column → Bool
@@ -146,11 +142,11 @@ fits_next t tables cells = nat_lt (table_at t tables).top MAX_ID && row_fits cel
 abbrev pub insert_next : ℕ → List ℕ → List Column → List ℕ → List TableData → Outcome
 insert_next t name cells unique tables =
     if is_duplicate unique cells (table_at t tables).rows
-      then refused Duplicate tables
-      else (if fits_next t tables cells
-        then changed (Id (pos ((table_at t tables).top + 1))) (Put name (pos ((table_at t tables).top + 1)) cells) before.NoRow
-          (slice_set tables t (with_new_row cells (table_at t tables)))
-        else refused Limit tables)
+    then refused Duplicate tables
+    else (if fits_next t tables cells
+    then changed (Id (pos ((table_at t tables).top + 1))) (Put name (pos ((table_at t tables).top + 1)) cells)
+    (slice_set tables t (with_new_row cells (table_at t tables)))
+    else refused Limit tables)
 
 abbrev pub insert_at : Option ℕ → List ℕ → List Column → List ℕ → List TableData → Outcome
 insert_at None name cells unique tables = insert_first name cells tables
@@ -166,20 +162,20 @@ fits_in_place old new tables = row_fits new && nat_le (total_size tables - row_s
 abbrev pub update_at : ℕ → ℕ → List ℕ → ℤ → List Column → List Column → List TableData → Outcome
 update_at t r name id old new tables =
     if fits_in_place old new tables
-      then changed Done (Put name id new) (before.Row old) (slice_set tables t (with_cells r new (table_at t tables)))
-      else refused Limit tables
+    then changed Done (Put name id new) (slice_set tables t (with_cells r new (table_at t tables)))
+    else refused Limit tables
 
 abbrev pub updated : List ℕ → ℤ → List Column → List TableData → Outcome
 updated name id given tables =
     on_table (table_place name tables) tables (λ t.
-      on_row (row_place id (table_at t tables).rows) tables (λ r.
-        update_at t r name id (row_at r (table_at t tables)).cells (merged (row_at r (table_at t tables)).cells given) tables))
+    on_row (row_place id (table_at t tables).rows) tables (λ r.
+    update_at t r name id (row_at r (table_at t tables)).cells (merged (row_at r (table_at t tables)).cells given) tables))
 
 abbrev pub deleted : List ℕ → ℤ → List TableData → Outcome
 deleted name id tables =
     on_table (table_place name tables) tables (λ t.
-      on_row (row_place id (table_at t tables).rows) tables (λ r.
-        changed Done (Drop name id) (before.Row (row_at r (table_at t tables)).cells) (slice_set tables t (without_row r (table_at t tables)))))
+    on_row (row_place id (table_at t tables).rows) tables (λ r.
+    changed Done (Drop name id) (slice_set tables t (without_row r (table_at t tables)))))
 
 -- one operation
 abbrev pub step : TableOp → List TableData → Outcome
@@ -189,10 +185,6 @@ step (Find name column text) tables = found name column text tables
 step (Insert name given unique) tables = inserted name given unique tables
 step (Update name id given) tables = updated name id given tables
 step (Delete name id) tables = deleted name id tables
-
--- the change of an outcome
-abbrev pub change_of : Outcome → Option Change
-change_of outcome = option_map (λ made. made.change) outcome.made
 
 -- ---- what holds of all tables together
 
@@ -208,4 +200,4 @@ pub record IsTables (tables : List TableData) (rows size : ℕ) : Type 0 where
 
 -- a step in memory is this outcome
 abbrev pub IsStep : Outcome → Step → List TableData → Type 0
-IsStep outcome answer tables = outcome ≡ record { tables = tables; reply = answer.reply; made = answer.made }
+IsStep outcome answer tables = outcome ≡ record { tables = tables; reply = answer.reply; change = answer.change }

@@ -12,7 +12,10 @@ mod text;
 
 pub use cell::{Cell, Column};
 pub use limits::{MAX_COLUMNS, MAX_ID, MAX_ROW_SIZE, MAX_ROWS, MAX_SIZE, MAX_TABLES};
-pub use operation::{Before, Change, Made, RowList, Step, TableOp, TableRefusal, TableReply};
+pub use operation::{Change, RowList, Step, TableOp, TableRefusal, TableReply};
 pub use row::{ID, RowCells};
 pub use tables::Tables;
 pub use text::CellText;
+
+#[cfg(test)]
+mod tests;

@@ -120,26 +120,9 @@ pub enum Change {
     },
 }
 
-/// What stood before a change where now the change stands.
-#[derive(Debug, Drop)]
-pub enum Before {
-    /// The table was not there.
-    NoTable,
-    /// The row was not there, and the largest id ever given was one less.
-    NoRow,
-    Row(RowCells),
-}
-
-/// A change with what stood before it, so that it can be taken back without memory.
-#[derive(Debug, Drop)]
-pub struct Made {
-    pub change: Change,
-    pub before: Before,
-}
-
 /// What an operation answers, and its change if it made one.
 #[derive(Debug, Drop)]
 pub struct Step {
     pub reply: TableReply,
-    pub made: Option<Made>,
+    pub change: Option<Change>,
 }

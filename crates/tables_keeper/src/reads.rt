@@ -64,7 +64,8 @@ pub fn rows_with_text(
 fn has_cell(column: &[u8], cell: &Cell, rows: &[Row]) -> bool
     ensures { result ≡ has_cell column.now (Some cell.now) rows.now }
 {
-    rows.iter().any(|row| cells_have_cell(&row.cells, column, cell))
+    rows.iter()
+        .any(|row| cells_have_cell(&row.cells, column, cell))
 }
 
 fn cells_have_cell(cells: &RowCells, column: &[u8], cell: &Cell) -> bool

@@ -3,13 +3,13 @@ ghost use Rattle.std.specs.Prelude.{◌≡◌, [], ◌+◌, ◌-◌, ◌≤◌, 
 ghost use Rattle.std.specs.List.{position, insert};
 ghost use Rattle.tables_keeper.specs.Rows.{is_named, merged, row_size, without_id};
 ghost use Rattle.tables_keeper.specs.TableData.{row_place, shown, with_new_row, with_cells, without_row};
-ghost use Rattle.tables_keeper.specs.Tables.{HasRisingNames, tables_of, tables_before, table_place, table_at, row_at, got, all_of, found, answered, inserted, insert_first, insert_next, updated, update_at, deleted, step, change_of, IsStep, row_fits, fits_first, fits_next, fits_in_place, fits_one_more, total_size, new_table};
+ghost use Rattle.tables_keeper.specs.Tables.{HasRisingNames, tables_of, tables_before, table_place, table_at, row_at, got, all_of, found, answered, inserted, insert_first, insert_next, updated, update_at, deleted, step, IsStep, row_fits, fits_first, fits_next, fits_in_place, fits_one_more, total_size, new_table};
 
 use crate::reads::{all_rows, is_duplicate, rows_with_text};
 use crate::table::Table;
 use crate::{
-    Before, CellText, Change, MAX_COLUMNS, MAX_ID, MAX_ROW_SIZE, MAX_ROWS, MAX_SIZE, MAX_TABLES, Made,
-    RowCells, Step, TableOp, TableRefusal, TableReply,
+    CellText, Change, MAX_COLUMNS, MAX_ID, MAX_ROW_SIZE, MAX_ROWS, MAX_SIZE, MAX_TABLES, RowCells,
+    Step, TableOp, TableRefusal, TableReply,
 };
 use std::alloc::{AllocError, Global};
 use std::marker::Model;
@@ -118,12 +118,7 @@ impl Tables {
             return Ok(TableReply::Refused(TableRefusal::NoTable));
         };
         let table = &self.list[place];
-        Ok(TableReply::Rows(rows_with_text(
-            alloc,
-            table,
-            column.as_slice(),
-            text.as_slice(),
-        )?))
+        Ok(TableReply::Rows(rows_with_text(alloc, table, column.as_slice(), text.as_slice())?))
     }
 
     /// Does one operation. Contracts see the tables, the answer and the change by the definition `step`. Where there was
@@ -134,19 +129,15 @@ impl Tables {
         op: &TableOp,
     ) -> Result<(TableReply, Option<Change>), AllocError>
         ensures reply { IfOk result (λ answer. answer.0 ≡ (step op.now (tables_of self.old)).reply) }
-        ensures change { IfOk result (λ answer. answer.1 ≡ change_of (step op.now (tables_of self.old))) }
+        ensures change { IfOk result (λ answer. answer.1 ≡ (step op.now (tables_of self.old)).change) }
         ensures tables { OnOk result (tables_of self.new ≡ (step op.now (tables_of self.old)).tables) }
         ensures err { OnErr result (tables_of self.new ≡ tables_of self.old) }
     {
-        let Step { reply, made } = self.perform(alloc, op)?;
-        match made {
-            Some(Made { change, before: _ }) => Ok((reply, Some(change))),
-            None => Ok((reply, None)),
-        }
+        let Step { reply, change } = self.perform(alloc, op)?;
+        Ok((reply, change))
     }
 
-    /// Does one operation, and hands out its change with what stood before it.
-    pub fn perform(&mut self, alloc: Global, op: &TableOp) -> Result<Step, AllocError>
+    fn perform(&mut self, alloc: Global, op: &TableOp) -> Result<Step, AllocError>
         ensures ok { IfOk result (λ answer. IsStep (step op.now (tables_of self.old)) answer (tables_of self.new)) }
         ensures err { OnErr result (tables_of self.new ≡ tables_of self.old) }
     {
@@ -200,7 +191,7 @@ impl Tables {
         }
         let change = put(alloc, name, 1, &cells)?;
         self.add_table(name.copy(alloc)?, cells)?;
-        Ok(changed(TableReply::Id(1), change, Before::NoTable))
+        Ok(changed(TableReply::Id(1), change))
     }
 
     /// Puts a row last in the table at a place.
@@ -227,7 +218,7 @@ impl Tables {
         let id = (self.list[place].top() + 1) as i64;
         let change = put(alloc, name, id, &cells)?;
         self.push_row(place, cells)?;
-        Ok(changed(TableReply::Id(id), change, Before::NoRow))
+        Ok(changed(TableReply::Id(id), change))
     }
 
     fn update(
@@ -273,8 +264,8 @@ impl Tables {
             return Ok(refused(TableRefusal::Limit));
         }
         let change = put(alloc, name, id, &new)?;
-        let old = self.replace_cells(place, row, new);
-        Ok(changed(TableReply::Done, change, Before::Row(old)))
+        let _old = self.replace_cells(place, row, new);
+        Ok(changed(TableReply::Done, change))
     }
 
     fn delete(&mut self, alloc: Global, name: &CellText, id: i64) -> Result<Step, AllocError>
@@ -292,8 +283,8 @@ impl Tables {
             table: name.copy(alloc)?,
             id,
         };
-        let old = self.remove_row(place, row);
-        Ok(changed(TableReply::Done, change, Before::Row(old)))
+        let _old = self.remove_row(place, row);
+        Ok(changed(TableReply::Done, change))
     }
 
     fn fits_one_more(&self, cells: &RowCells) -> bool
@@ -471,22 +462,25 @@ fn put(alloc: Global, name: &CellText, id: i64, cells: &RowCells) -> Result<Chan
 }
 
 fn answer(reply: TableReply) -> Step
-    ensures { result ≡ record { reply = reply; made = None } }
+    ensures { result ≡ record { reply = reply; change = None } }
 {
-    Step { reply, made: None }
+    Step {
+        reply,
+        change: None,
+    }
 }
 
 fn refused(why: TableRefusal) -> Step
-    ensures { result ≡ record { reply = TableReply.Refused why; made = None } }
+    ensures { result ≡ record { reply = TableReply.Refused why; change = None } }
 {
     answer(TableReply::Refused(why))
 }
 
-fn changed(reply: TableReply, change: Change, before: Before) -> Step
-    ensures { result ≡ record { reply = reply; made = Some (record { change = change; before = before }) } }
+fn changed(reply: TableReply, change: Change) -> Step
+    ensures { result ≡ record { reply = reply; change = Some change } }
 {
     Step {
         reply,
-        made: Some(Made { change, before }),
+        change: Some(change),
     }
 }

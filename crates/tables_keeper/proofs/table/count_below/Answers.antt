@@ -1,5 +1,4 @@
-use Rattle.std.proofs.Common.{◌≡◌, nat_lt, ltb, sym, rules, of_calls}
-use Rattle.std.specs.List.{prefix_len}
+use Rattle.std.proofs.Common.{nat_lt, sym, rules, of_calls}
 use Rattle.std.proofs.lemmas.Fn.{always_returns_same}
 use Rattle.tables_keeper.specs.declared.table.Row.{Row}
 use Rattle.std.proofs.lemmas.List.Sorted.{IsPartitionedBy-ltb}

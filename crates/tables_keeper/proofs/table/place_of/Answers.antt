@@ -1,4 +1,4 @@
-use Rattle.std.proofs.Common.{◌≡◌, ◌<◌, sym, ◌∙◌, ap, rules, length, get_or, arith}
+use Rattle.std.proofs.Common.{sym, ◌∙◌, ap, arith}
 use Rattle.std.proofs.lemmas.List.{get_or_default}
 use Rattle.tables_keeper.specs.declared.table.Row.{Row}
 use Rattle.tables_keeper.specs.TableData.{no_row}
@@ -18,9 +18,9 @@ returns-else-place-rows c =
     let rows = c.args.rows.now in
     let place = c.count_below-place.result in
     sym (missing_at rows c.args.id place c.requires c.count_below-place.ensures.place
-      (λ within. elim c.else-place-rows.branch [
-        | else-place-rows-via-then-place-rows+else-rows-place w ↦
+    (λ within. elim c.else-place-rows.branch [
+      | else-place-rows-via-then-place-rows+else-rows-place w ↦
           let same = get_or_default rows place no_row w.index-rows-place.result within in
           λ e. w.if-rows-place.false (ap (λ (row : Row). row.id) (sym same) ∙ e)
-        | else-place-rows-via-else-place-rows w ↦ absurd (omega arith)
-      ]))
+      | else-place-rows-via-else-place-rows w ↦ absurd (omega arith)
+    ]))

@@ -1,6 +1,4 @@
-use Rattle.std.proofs.Common.{◌≡◌, rules, ap, ◌∙◌}
-use Rattle.tables_keeper.specs.TableData.{TableView}
-use Rattle.tables_keeper.specs.Tables.{tables_of}
+use Rattle.std.proofs.Common.{rules}
 use Rattle.tables_keeper.proofs.ViewLemmas.{insert_view}
 use Rattle.tables_keeper.proofs.tables.insert_into.Goals as goal
 

@@ -16,11 +16,11 @@ pub returns-else-place-list : goal.returns-else-place-list
 returns-else-place-list c =
     let place = c.count_below-place.result in
     sym (table_missing c.args.name.now c.args.list.now place empty_view c.requires c.count_below-place.ensures.place
-      (λ within. elim c.else-place-list.branch [
-        | else-place-list-via-then-place-list+else-eq w ↦
+    (λ within. elim c.else-place-list.branch [
+      | else-place-list-via-then-place-list+else-eq w ↦
           let name = c.args.name.now in
           let same = get_or_read c.args.list.now place w.index-list-place.result within w.index-list-place.is empty_view in
           let differs : has_name name w.index-list-place.result ≡ false = search rules in
           subst (λ (v : TableView). has_name name v ≡ false) same differs
-        | else-place-list-via-else-place-list w ↦ absurd (omega arith)
-      ]))
+      | else-place-list-via-else-place-list w ↦ absurd (omega arith)
+    ]))

@@ -1,6 +1,6 @@
 use Rattle.std.proofs.Common.{◌≡◌, rules, codes, None}
 use Rattle.std.specs.List.{position}
-use Rattle.tables_keeper.specs.Rows.{with_id, is_named, HasDistinctNames}
+use Rattle.tables_keeper.specs.Rows.{with_id, is_named}
 use Rattle.tables_keeper.proofs.RowLemmas.{distinct_with_id}
 use Rattle.tables_keeper.proofs.row.RowCells.with_id.Goals as goal
 

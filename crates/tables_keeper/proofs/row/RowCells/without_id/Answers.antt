@@ -1,5 +1,5 @@
 use Rattle.std.proofs.Common.{◌≡◌, rules}
-use Rattle.tables_keeper.specs.Rows.{without_id, HasDistinctNames}
+use Rattle.tables_keeper.specs.Rows.{without_id}
 use Rattle.tables_keeper.proofs.RowLemmas.{distinct_without_id}
 use Rattle.tables_keeper.proofs.row.RowCells.without_id.Goals as goal
 

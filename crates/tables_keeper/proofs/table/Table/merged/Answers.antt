@@ -1,8 +1,8 @@
-use Rattle.std.proofs.Common.{◌≡◌, ◌<◌, ap, sym, subst, length, None, codes, rules}
+use Rattle.std.proofs.Common.{◌≡◌, ◌<◌, ap, sym, subst, length, None, codes}
 use Rattle.std.specs.List.{position}
 use Rattle.tables_keeper.specs.declared.table.Row.{Row}
 use Rattle.tables_keeper.specs.Rows.{is_named}
-use Rattle.tables_keeper.specs.TableData.{TableView, IsGiven}
+use Rattle.tables_keeper.specs.TableData.{TableView}
 use Rattle.tables_keeper.proofs.RowLemmas.{plain_merged}
 use Rattle.tables_keeper.proofs.table.Table.merged.Goals as goal
 

@@ -1,9 +1,8 @@
-use Rattle.std.proofs.Common.{◌≡◌, ◌∙◌, ap, eqb, w64, of_z, Option, ℕ, List}
+use Rattle.std.proofs.Common.{◌≡◌, ◌∙◌, ap, eqb, w64}
 use Rattle.std.specs.List.{position}
 use Rattle.std.specs.Int.RustNames.{unsigned_abs}
 use Rattle.std.proofs.lemmas.Int.{to_z-of_z}
 use Rattle.tables_keeper.specs.TableData.{TableView}
-use Rattle.tables_keeper.specs.declared.table.Row.{Row}
 use Rattle.tables_keeper.proofs.TableLemmas.{row_place_is}
 use Rattle.tables_keeper.proofs.table.Table.place_of.Goals as goal
 

@@ -1,4 +1,4 @@
-use Rattle.std.proofs.Common.{◌≡◌, ◌∙◌, ap, eqb, rules, arith, None, List, refl}
+use Rattle.std.proofs.Common.{◌≡◌, ap, eqb, rules, arith, None}
 use Rattle.std.specs.List.{position, insert}
 use Rattle.tables_keeper.specs.TableData.{TableView, rows_before, IsGiven, IsTable}
 use Rattle.tables_keeper.specs.declared.table.Row.{Row}

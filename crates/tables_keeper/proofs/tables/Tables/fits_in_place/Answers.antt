@@ -1,4 +1,4 @@
-use Rattle.std.proofs.Common.{◌≡◌, ◌<◌, ◌^◌, ◌-◌, ◌∙◌, ap, sym, min, length, arith, true, nat_le, rules}
+use Rattle.std.proofs.Common.{◌≡◌, ◌<◌, ◌^◌, ◌-◌, ◌∙◌, ap, sym, min, length, arith, true, rules}
 use Rattle.tables_keeper.specs.Rows.{row_size}
 use Rattle.tables_keeper.specs.Tables.{tables_of, table_at, row_at, row_fits}
 use Rattle.tables_keeper.proofs.TotalLemmas.{in_place_is}
@@ -16,7 +16,7 @@ returns-then-row_fits c =
     let inside : c.args.row < length (table_at c.args.place tables).rows = rw c.self.view_is c.requires.row in
     let small : c.self.inside.size < 2 ^ 64 = omega arith in
     let old : c.size_at-old.result ≡ min (row_size (row_at c.args.row (table_at c.args.place tables)).cells) (2 ^ 64 - 1) =
-      c.size_at-old.ensures ∙ ap (λ (t : TableData). min (row_size (row_at c.args.row t).cells) (2 ^ 64 - 1)) (sym (table_at_is views c.args.place c.index.result.now first c.index.ensures)) in
+    c.size_at-old.ensures ∙ ap (λ (t : TableData). min (row_size (row_at c.args.row t).cells) (2 ^ 64 - 1)) (sym (table_at_is views c.args.place c.index.result.now first c.index.ensures)) in
     let fits : row_fits c.args.new.now ≡ true = search rules in
     let e = in_place_is tables c.args.place c.args.row c.args.new.now c.self.inside.rows c.self.inside.size c.size_at-old.result c.size.result c.self.invariant within inside small old c.size.ensures fits in
     rw (c.saturating_add.ensures, c.saturating_sub.ensures) (rw c.self.view_is at e)

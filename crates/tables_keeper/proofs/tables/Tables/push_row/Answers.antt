@@ -1,5 +1,4 @@
-use Rattle.std.proofs.Common.{◌≡◌, ◌<◌, ap, IsTrue, length, List, rules}
-use Rattle.tables_keeper.specs.TableData.{TableView}
+use Rattle.std.proofs.Common.{◌<◌, IsTrue, length}
 use Rattle.tables_keeper.specs.Tables.{tables_of, fits_one_more}
 use Rattle.tables_keeper.proofs.TotalLemmas.{pushed_tables}
 use Rattle.std.proofs.lemmas.List.{length-map}
