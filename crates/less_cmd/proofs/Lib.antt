@@ -1,0 +1,3 @@
+pub mod Echoes
+pub mod Quoting
+pub mod Steps

@@ -1,0 +1,4 @@
+//! The commands of Less.
+#![tactic(auto)]
+
+mod page;
