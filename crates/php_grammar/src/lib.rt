@@ -1,0 +1,4 @@
+//! The grammar of PHP files, as a table, and its laws.
+#![tactic(auto)]
+
+pub mod token;
