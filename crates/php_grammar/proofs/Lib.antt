@@ -11,3 +11,4 @@ pub mod Sound
 pub mod Exact
 pub mod Judge
 pub mod Nodes
+pub mod Single
