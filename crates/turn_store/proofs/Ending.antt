@@ -126,6 +126,7 @@ module _ {V : Type 0} where
         inside = λ e m. let h = within first values s r id d at e m in omega arith;
         numbered = λ e m. let h = of_past first values s r id d at e m in let v = (slot_at first values s r id d at e m).generation in let a = h.high in (h.low, omega arith);
         distinct = once first values s r id d at;
+        grows = λ k l. let v = (r.each_slot k (omega arith)).generation in omega arith;
         begins = λ e m is. past_begins e.slot first (get_elem? values e.slot) (r.roles e.slot) (r.past e.slot) e (slot_at first values s r id d at e m).legal (past_at first values s r id d at e m) is;
         follows = λ e g m n same next. past_follows e.slot first (get_elem? values e.slot) (r.roles e.slot) (r.past e.slot) e g (slot_at first values s r id d at e m).legal (past_at first values s r id d at e m) (past_with first values s r id d at e g n same) next;
         rises = λ e g m n same up. past_rises e.slot first (get_elem? values e.slot) (r.roles e.slot) (r.past e.slot) e g (slot_at first values s r id d at e m).legal (past_at first values s r id d at e m) (past_with first values s r id d at e g n same) up;

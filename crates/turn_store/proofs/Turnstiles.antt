@@ -106,3 +106,19 @@ module _ {V : Type 0} where
       (λ ne. let at = get_or-set_other words k t.slot y 0 ne in (ap (λ (z : ℕ). taken_of z) at, ap (λ (z : ℕ). generation_of z) at)))
       may.empty)
   may_give_after_pin k role words words' values ChangesSpent t inside did may = subst (λ (ws : List ℕ). IsOut ws values t) (sym did.1) may
+
+  -- ---- the count of slots stays
+
+  pub slots_after_take : (k : ℕ) (told told' : Told V) (r : answers.Take V) → TellsTake k told r told' → slots told' ≡ slots told
+  slots_after_take k (lane n items held) told' r did = ap (λ (z : Told V). slots z) did.1
+  slots_after_take k (alone words values) told' r did = ap (λ (z : Told V). slots z) did.1.2 ∙ length-set words k (bit_or (get_or words k 0) 1)
+
+  pub slots_after_gift : (told told' : Told V) (t : out.Taken V) → TellsGift told t told' → slots told' ≡ slots told
+  slots_after_gift (lane n items held) told' t did = ap (λ (z : Told V). slots z) did
+  slots_after_gift (alone words values) told' t did = ap (λ (z : Told V). slots z) did ∙ length-set words t.slot (get_or words t.slot 0 + 1)
+
+  -- ---- only the value was changed
+
+  pub may_give_changed : (told : Told V) (t : out.Taken V) (v : V) → MayGive told t → MayGive told (record t { value = v })
+  may_give_changed (lane n items held) t v may = may
+  may_give_changed (alone words values) t v may = record { inside = may.inside; bit = may.bit; number = may.number; room = may.room; empty = may.empty }

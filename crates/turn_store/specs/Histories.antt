@@ -23,6 +23,7 @@ module _ {V : Type 0} where
     -- numbers go from the first generation to the word's less one, and each stands at most once
     pub numbered : (e : Entry V) → InItems e items → (first ≤ e.number) × (e.number < generation_of (slice_index words e.slot))
     pub distinct : (k n : ℕ) → count_items k n items ≤ 1
+    pub grows : (k : ℕ) → k < length words → first ≤ generation_of (slice_index words k)
     -- the first entry begins with the opening value, and each other with what the one before left
     pub begins : (e : Entry V) → InItems e items → e.number ≡ first → get_elem? values e.slot ≡ some e.before
     pub follows : (e f : Entry V) → InItems e items → InItems f items → f.slot ≡ e.slot → f.number ≡ e.number + 1 → f.before ≡ e.after
@@ -36,3 +37,18 @@ module _ {V : Type 0} where
   -- each number from the first generation to the word's less one has its entry
   abbrev pub IsWhole : ℕ → List (Item V) → ℕ → ℕ → Type 0
   IsWhole first items word k = (n : ℕ) → first ≤ n → n < generation_of word → (e : Entry V) × InItems e items × (e.slot ≡ k) × (e.number ≡ n)
+
+  -- the slot was never given back, and its opening value is home
+  pub record ClosesUntouched (first : ℕ) (values : List V) (word k : ℕ) (left : List (Option V)) : Type 0 where
+    pub value : V
+    pub generation : generation_of word ≡ first
+    pub is_opening : get_elem? values k ≡ some value
+    pub is_home : get_elem? left k ≡ some (Some value)
+
+  -- the value that the last entry left is home
+  pub record ClosesAfter (items : List (Item V)) (word k : ℕ) (left : List (Option V)) : Type 0 where
+    pub entry : Entry V
+    pub is_item : InItems entry items
+    pub slot : entry.slot ≡ k
+    pub is_last : entry.number + 1 ≡ generation_of word
+    pub is_home : get_elem? left k ≡ some (Some entry.after)

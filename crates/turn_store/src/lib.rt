@@ -16,6 +16,8 @@ mod pins;
 mod plays;
 mod store;
 mod take;
+#[cfg(test)]
+mod tests;
 mod turns;
 mod turnstile;
 mod view;
