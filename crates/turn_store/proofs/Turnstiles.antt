@@ -122,3 +122,8 @@ module _ {V : Type 0} where
   pub may_give_changed : (told : Told V) (t : out.Taken V) (v : V) → MayGive told t → MayGive told (record t { value = v })
   may_give_changed (lane n items held) t v may = may
   may_give_changed (alone words values) t v may = record { inside = may.inside; bit = may.bit; number = may.number; room = may.room; empty = may.empty }
+
+-- a pin changes no length
+pub length_after_pin : (k role : ℕ) (words words' : List ℕ) (r : Pinned) → PinsAlone k role words words' r → length words' ≡ length words
+length_after_pin k role words words' (Changed n) did = ap (λ (ws : List ℕ). length ws) did.1.2 ∙ length-set words k did.1.0
+length_after_pin k role words words' ChangesSpent did = ap (λ (ws : List ℕ). length ws) did.1

@@ -3,7 +3,7 @@ ghost use Rattle.std.specs.Prelude.{◌≡◌, ◌<◌, ◌^◌, length};
 ghost use Rattle.turn_store.specs.Alone.{words_of};
 
 use super::{add, busy_word, parts, spent_word, taken_by, tens};
-use crate::{AloneTurns, Pinned, Turnstile};
+use crate::{AloneTurns, Pinned, Take, Turnstile};
 use std::test::Fail;
 
 #[test]
@@ -23,17 +23,29 @@ fn slots_are_taken_alone(rt: HostRuntime) -> Result<(), Fail> {
     Ok(())
 }
 
+/// Pins slot 0 while it is out, and gives it back with the value 12.
+fn pin_what_is_out(alone: &mut AloneTurns<u64>) -> Option<((u32, u32, u8, u64), Pinned)>
+    requires { 0 < length (words_of alone.old) }
+    ensures { length (words_of alone.new) ≡ length (words_of alone.old) }
+{
+    let Take::Taken(mut taken) = alone.try_take(0) else {
+        return None;
+    };
+    let had = parts(&taken);
+    let pinned = alone.pin(0, 3);
+    taken.value = 12;
+    alone.give_back(taken);
+    Some((had, pinned))
+}
+
 #[test]
 fn a_slot_that_is_out_is_pinned(rt: HostRuntime) -> Result<(), Fail> {
     let alloc = rt.alloc();
     let Ok(mut alone) = AloneTurns::new(alloc, tens(alloc, 1)?, 0) else {
         return Err(Fail::from("no memory"));
     };
-    let mut taken = taken_by(alone.try_take(0))?;
-    assert_eq!(rt; alone.pin(0, 3), Pinned::Changed(1));
-    taken.value = 12;
-    assert_eq!(rt; parts(&taken), (0, 0, 0, 12));
-    alone.give_back(taken);
+    let done = pin_what_is_out(&mut alone);
+    assert!(rt; done == Some(((0, 0, 0, 10), Pinned::Changed(1))));
     assert_eq!(rt; add(&mut alone, 0, 0), Some((1, 1, 3, 12)));
     Ok(())
 }

@@ -1,5 +1,5 @@
 //! Threads that take, give back and pin at once.
-ghost use Rattle.std.specs.Prelude.{◌≡◌, ◌<◌, [], length};
+ghost use Rattle.std.specs.Prelude.{◌≡◌, ◌<◌, [], IfOk};
 ghost use Rattle.turn_store.specs.Passes.{slot_count, IsPassOf, IsAdminOf, held_by};
 
 use super::{busy_word, pin_often, tens};
@@ -48,36 +48,47 @@ fn pins(store: &SharedTurns<u64>, admin: AdminPass<u64>) -> (AdminPass<u64>, boo
     (admin, numbered)
 }
 
-fn race<R: Threads + Wait + Sync>(rt: &R, alloc: Global) -> Result<(Closed<u64>, bool), AllocError> {
-    let (store, mut a, admin) = SharedTurns::new(alloc, tens(alloc, 4)?, 0)?;
-    let b = store.split(&mut a)?;
-    let c = store.split(&mut a)?;
-    let (mut a, (b, (c, (admin, numbered)))) = join(
+fn two_visit<R: Threads + Wait + Sync>(
+    rt: &R,
+    store: &SharedTurns<u64>,
+    mut pass: Pass<u64>,
+) -> Result<Pass<u64>, AllocError>
+    requires { IsPassOf store.now pass × (1 < slot_count store.now) × (held_by pass ≡ []) }
+    ensures { IfOk result (λ p. IsPassOf store.now p × (held_by p ≡ [])) }
+{
+    let other = store.split(&mut pass)?;
+    let (mut pass, other) = join(
         rt,
-        || visits(rt, &store, a),
-        || {
-            join(
-                rt,
-                || visits(rt, &store, b),
-                || join(rt, || visits(rt, &store, c), || pins(&store, admin)),
-            )
-        },
+        || visits(rt, store, pass),
+        || visits(rt, store, other),
     );
-    store.join(&mut a, b);
-    store.join(&mut a, c);
-    match store.close(alloc, a, admin) {
+    store.join(&mut pass, other);
+    Ok(pass)
+}
+
+fn race<R: Threads + Wait + Sync>(
+    rt: &R,
+    alloc: Global,
+) -> Result<(Closed<u64>, bool), AllocError> {
+    let (store, pass, admin) = SharedTurns::new(alloc, tens(alloc, 4)?, 0)?;
+    let (pass, (admin, numbered)) = join(
+        rt,
+        || two_visit(rt, &store, pass),
+        || pins(&store, admin),
+    );
+    match store.close(alloc, pass?, admin) {
         Ok(closed) => Ok((closed, numbered)),
         Err(_) => Err(AllocError),
     }
 }
 
 #[test]
-fn three_threads_visit_while_a_fourth_pins(rt: HostRuntime) -> Result<(), Fail> {
+fn two_threads_visit_while_a_third_pins(rt: HostRuntime) -> Result<(), Fail> {
     let (closed, numbered) = race(&rt, rt.alloc())?;
     assert!(rt; numbered);
-    let values = [Some(10u64), Some(10 + 15000), Some(10), Some(10)];
+    let values = [Some(10u64), Some(10 + 10000), Some(10), Some(10)];
     assert_eq!(rt; closed.values.as_slice(), values.as_slice());
-    let words = [0u64, 15000 * 2 + (3000 << 33) + (55 << 57), 0, 0];
+    let words = [0u64, 10000 * 2 + (3000 << 33) + (55 << 57), 0, 0];
     assert_eq!(rt; closed.words.as_slice(), words.as_slice());
     Ok(())
 }
