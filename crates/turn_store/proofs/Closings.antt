@@ -1,9 +1,8 @@
 -- The closing value of a slot whose history is whole.
-use Rattle.std.proofs.Common.{◌≡◌, ◌⊎◌, ℕ, ◌+◌, ◌-◌, ◌<◌, ◌≤◌, List, length, get_or, sym, ap, ◌∙◌, inl, inr, arith, Option, Some}
+use Rattle.std.proofs.Common.{◌≡◌, ◌⊎◌, ℕ, ◌+◌, ◌-◌, ◌<◌, List, length, get_or, ap, ◌∙◌, inl, inr, arith, Option, Some}
 use mathlib.Core.Logic.{dite}
 use mathlib.Core.Option.{some}
 use native.Mathlib.Decide.{ℕ_discrete}
-use lib.ListN.{get_elem?}
 use Rattle.turn_store.specs.declared.view.Item.{Item}
 use Rattle.turn_store.specs.declared.view.Change.{Change}
 use Rattle.turn_store.specs.Words.{taken_of, generation_of}

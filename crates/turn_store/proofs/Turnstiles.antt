@@ -1,6 +1,6 @@
 -- What was handed out may be given back, also after other calls.
-use Rattle.std.proofs.Common.{◌≡◌, ◌≢◌, ℕ, zero, suc, ◌+◌, ◌<◌, ◌/◌, ◌%◌, List, [], ◌∷◌, length, get_or, set, sym, refl, ap, ◌∙◌, subst, inl, inr, arith, Option, Some, None, length-set, get_or-set_other, get_or-set_same, bit_or}
-use mathlib.Core.Option.{some, some-injective, some-ne-none}
+use Rattle.std.proofs.Common.{◌≡◌, ◌≢◌, ℕ, zero, suc, ◌+◌, ◌<◌, ◌%◌, List, [], ◌∷◌, length, get_or, set, sym, refl, ap, ◌∙◌, subst, inl, inr, arith, Option, Some, None, length-set, get_or-set_other, get_or-set_same, bit_or}
+use mathlib.Core.Option.{some, some-ne-none}
 use mathlib.Core.Logic.{dite}
 use native.Mathlib.Decide.{ℕ_discrete}
 use lib.ListN.{get_elem?}
@@ -13,8 +13,8 @@ use Rattle.turn_store.specs.declared.take.Pinned.{Pinned}
 use Rattle.turn_store.specs.declared.take.Pinned.TheVariants.{Changed, ChangesSpent}
 use Rattle.turn_store.specs.Items.{InHeld}
 use Rattle.turn_store.specs.Words.{taken_of, generation_of}
-use Rattle.turn_store.specs.Told.{Told, lane, alone, slots, hold_of, IsOut, held_after, HandsOut, Answers, TellsTake, MayGive, TellsGift}
-use Rattle.turn_store.specs.Alone.{PinsAlone, HasPin}
+use Rattle.turn_store.specs.Told.{Told, lane, alone, slots, hold_of, IsOut, held_after, HandsOut, TellsTake, MayGive, TellsGift}
+use Rattle.turn_store.specs.Alone.{PinsAlone}
 use Rattle.turn_store.proofs.WordSteps.{marked_half, marked_taken}
 use Rattle.turn_store.proofs.Counting.{still_in}
 

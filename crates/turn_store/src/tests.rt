@@ -82,7 +82,10 @@ fn a_slot_goes_from_pass_to_pass(rt: HostRuntime) -> Result<(), Fail> {
     let taken = taken_by(store.try_take(&mut b, 3))?;
     assert_eq!(rt; parts(&taken), (1, 1, 2, 11));
     // the word before was 288230384741646338, and its bit 0 is set now
-    assert_eq!(rt; busy_word(store.try_take(&mut a, 3)), Some(288230384741646339));
+    assert_eq!(rt;
+        busy_word(store.try_take(&mut a, 3)),
+        Some(288230384741646339)
+    );
     store.give_back(&mut b, taken);
     Ok(())
 }

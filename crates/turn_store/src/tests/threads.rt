@@ -1,5 +1,5 @@
 //! Threads that take, give back and pin at once.
-ghost use Rattle.std.specs.Prelude.{◌≡◌, ◌<◌, [], IfOk};
+ghost use Rattle.std.specs.Prelude.{◌≡◌, ◌<◌, []};
 ghost use Rattle.turn_store.specs.Passes.{slot_count, IsPassOf, IsAdminOf, held_by};
 
 use super::{busy_word, pin_often, tens};
@@ -11,6 +11,7 @@ use std::test::Fail;
 use std::thread::{Threads, join, yield_now};
 
 const VISITS: u32 = 5000;
+
 const PINS: u32 = 3000;
 
 /// A visit of slot 1 that waits for it.
@@ -38,52 +39,41 @@ fn visits<R: Wait>(rt: &R, store: &SharedTurns<u64>, pass: Pass<u64>) -> Pass<u6
     pass
 }
 
-/// Pins slot 1 many times, while others visit it.
-fn pins(store: &SharedTurns<u64>, admin: AdminPass<u64>) -> (AdminPass<u64>, bool)
-    requires { IsAdminOf store.now admin × (1 < slot_count store.now) }
-    ensures { IsAdminOf store.now result.0 }
+/// Pins slot 1 many times while another thread visits it, and then visits it too.
+fn pins_and_visits<R: Wait>(
+    rt: &R,
+    store: &SharedTurns<u64>,
+    pass: Pass<u64>,
+    admin: AdminPass<u64>,
+) -> (Pass<u64>, AdminPass<u64>, bool)
+    requires { IsPassOf store.now pass × IsAdminOf store.now admin × (1 < slot_count store.now) × (held_by pass ≡ []) }
+    ensures { IsPassOf store.now result.0 × IsAdminOf store.now result.1 × (held_by result.0 ≡ []) }
 {
     let mut admin = admin;
     let numbered = pin_often(store, &mut admin, 1, PINS);
-    (admin, numbered)
-}
-
-fn two_visit<R: Threads + Wait + Sync>(
-    rt: &R,
-    store: &SharedTurns<u64>,
-    mut pass: Pass<u64>,
-) -> Result<Pass<u64>, AllocError>
-    requires { IsPassOf store.now pass × (1 < slot_count store.now) × (held_by pass ≡ []) }
-    ensures { IfOk result (λ p. IsPassOf store.now p × (held_by p ≡ [])) }
-{
-    let other = store.split(&mut pass)?;
-    let (mut pass, other) = join(
-        rt,
-        || visits(rt, store, pass),
-        || visits(rt, store, other),
-    );
-    store.join(&mut pass, other);
-    Ok(pass)
+    (visits(rt, store, pass), admin, numbered)
 }
 
 fn race<R: Threads + Wait + Sync>(
     rt: &R,
     alloc: Global,
 ) -> Result<(Closed<u64>, bool), AllocError> {
-    let (store, pass, admin) = SharedTurns::new(alloc, tens(alloc, 4)?, 0)?;
-    let (pass, (admin, numbered)) = join(
+    let (store, mut a, admin) = SharedTurns::new(alloc, tens(alloc, 4)?, 0)?;
+    let b = store.split(&mut a)?;
+    let (mut a, (b, admin, numbered)) = join(
         rt,
-        || two_visit(rt, &store, pass),
-        || pins(&store, admin),
+        || visits(rt, &store, a),
+        || pins_and_visits(rt, &store, b, admin),
     );
-    match store.close(alloc, pass?, admin) {
+    store.join(&mut a, b);
+    match store.close(alloc, a, admin) {
         Ok(closed) => Ok((closed, numbered)),
         Err(_) => Err(AllocError),
     }
 }
 
 #[test]
-fn two_threads_visit_while_a_third_pins(rt: HostRuntime) -> Result<(), Fail> {
+fn two_threads_visit_and_one_pins(rt: HostRuntime) -> Result<(), Fail> {
     let (closed, numbered) = race(&rt, rt.alloc())?;
     assert!(rt; numbered);
     let values = [Some(10u64), Some(10 + 10000), Some(10), Some(10)];

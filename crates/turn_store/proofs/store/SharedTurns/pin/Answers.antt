@@ -1,5 +1,5 @@
 use Rattle.std.proofs.Common.{rules, arith, ◌≡◌, ℕ, ◌+◌, ◌-◌, ◌*◌, ◌/◌, ◌%◌, ◌<◌, ◌∷◌, [], List, length, length-append, sym, ap, ◌∙◌}
-use Rattle.turn_store.specs.Items.{roles_of, last_role, change}
+use Rattle.turn_store.specs.Items.{roles_of, last_role}
 use Rattle.turn_store.specs.Plays.{with_change}
 use Rattle.turn_store.specs.Passes.{admin_view}
 use Rattle.turn_store.proofs.Pinning.{knows_word, pins, roles_more}

@@ -1,4 +1,4 @@
-use Rattle.std.proofs.Common.{◌≡◌, ◌+◌, ◌<◌, length, length-set, get_or, ap, ◌∙◌, sym, subst, arith}
+use Rattle.std.proofs.Common.{◌+◌, ◌<◌, length, length-set, get_or, ap, ◌∙◌, sym, subst, arith}
 use Rattle.turn_store.specs.Told.{MayGive, alone, slots}
 use Rattle.turn_store.specs.Alone.{words_of, values_of, words_and_values}
 use Rattle.turn_store.proofs.Turnstiles.{may_give, may_give_changed, may_give_after_pin, slots_after_take, length_after_pin}
