@@ -4,7 +4,7 @@
 
 mod crowd;
 mod plan;
-mod threads;
+mod visitor;
 
 use std::io;
 

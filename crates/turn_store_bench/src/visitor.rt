@@ -39,7 +39,12 @@ pub fn visits<R: Wait>(
 }
 
 /// Pins one slot after another.
-pub fn pins(store: &SharedTurns<u64>, admin: AdminPass<u64>, slots: usize, count: u32) -> AdminPass<u64>
+pub fn pins(
+    store: &SharedTurns<u64>,
+    admin: AdminPass<u64>,
+    slots: usize,
+    count: u32,
+) -> AdminPass<u64>
     requires { IsAdminOf store.now admin × (0 < slots) × (slots ≡ slot_count store.now) }
     ensures { IsAdminOf store.now result }
 {
