@@ -1,0 +1,11 @@
+pub mod Files
+pub mod Folder
+pub mod FolderMem
+pub mod FolderReal
+pub mod Link
+pub mod LinkMem
+pub mod LinkReal
+pub mod Sink
+pub mod SinkMem
+pub mod SinkReal
+pub mod Told
