@@ -1,5 +1,5 @@
 -- Two columns of keys and values, and the pairs that they make.
-use Rattle.std.proofs.Common.{remove, rules, ◌≡◌, ℕ, zero, suc, Bool, true, false, not, ◌&&◌, ◌||◌, List, [], ◌∷◌, ◌++◌, ◌+◌, ◌-◌, ◌<◌, ◌≤◌, max, pos, negsuc, map, refl, subst, sym, ap, ◌∙◌, Option, Some, None, length, zip, take, drop, slice_get, slice_set, get_or, ◌≢◌, arith, if◌then◌else◌, cond, IsTrue, nat_lt, Decides, length-append}
+use Rattle.std.proofs.Common.{remove, rules, ◌≡◌, ℕ, zero, suc, Bool, true, false, not, ◌&&◌, ◌||◌, List, [], ◌∷◌, ◌++◌, ◌+◌, ◌<◌, ◌≤◌, pos, negsuc, refl, subst, sym, ap, ◌∙◌, Option, Some, None, length, zip, slice_get, slice_set, get_or, arith, if◌then◌else◌, IsTrue, nat_lt, Decides, length-append}
 use Rattle.std.proofs.lemmas.Bool.Decides.{nat_tests, Decides-int_eq, same_from_decides}
 use Rattle.std.proofs.lemmas.Slice.Eq.{bytes_eq-Decides}
 use Rattle.std.specs.List.{AllZip}
@@ -8,7 +8,7 @@ use Rattle.order_map.specs.declared.key.Key.TheVariants.{Int, Text}
 use Rattle.order_map.specs.Keys.{same_key, has_key, all_distinct, is_below, all_below, next_after, spent}
 use Rattle.order_map.specs.MapView.{IsSound, MapView, map_view}
 use Rattle.order_map.specs.declared.place.Place.{Place}
-use Rattle.order_map.specs.Arrays.{place_of, pairs_of, next_of, keys_of, look, put, without, AreCopies, IsArray}
+use Rattle.order_map.specs.Arrays.{place_of, pairs_of, keys_of, look, put, without, AreCopies, IsArray}
 use Rattle.order_map.specs.Finding.{place_from}
 
 module _ {V : Type 0} where
@@ -31,18 +31,26 @@ module _ {V : Type 0} where
   some_step : (b : Bool) (j : ℕ) (key k : Key) (x : V) (ks : List Key) (vs : List V) (m : ℕ) → same_key k key ≡ b → (if b then Some j else place_from (j + 1) key ks) ≡ Some m
       → (place_from (j + 1) key ks ≡ Some m → (i : ℕ) × (m ≡ j + 1 + i) × Found key ks vs i)
       → (i : ℕ) × (m ≡ j + i) × Found key (k ∷ ks) (x ∷ vs) i
-  some_step true j key k x ks vs m b e ih = (0, grind arith, record {
-    inside = omega arith;
-    value = ap (λ c. if c then Some x else look key (zip ks vs)) b;
-    puts = λ v. ap (λ c. if c then (k, v) ∷ zip ks vs else (k, x) ∷ put key v (zip ks vs)) b;
-    cuts = ap (λ c. if c then zip ks vs else (k, x) ∷ without key (zip ks vs)) b;
-  })
-  some_step false j key k x ks vs m b e ih = let h = ih e in (suc h.0, omega (arith, h.1), record {
-    inside = let l = h.2.inside in omega arith;
-    value = ap (λ c. if c then Some x else look key (zip ks vs)) b ∙ h.2.value;
-    puts = λ v. ap (λ c. if c then (k, v) ∷ zip ks vs else (k, x) ∷ put key v (zip ks vs)) b ∙ ap (λ l. (k, x) ∷ l) (h.2.puts v);
-    cuts = ap (λ c. if c then zip ks vs else (k, x) ∷ without key (zip ks vs)) b ∙ ap (λ l. (k, x) ∷ l) h.2.cuts;
-  })
+  some_step true j key k x ks vs m b e ih = (
+    0,
+    grind arith,
+    record {
+      inside = omega arith;
+      value = ap (λ c. if c then Some x else look key (zip ks vs)) b;
+      puts = λ v. ap (λ c. if c then (k, v) ∷ zip ks vs else (k, x) ∷ put key v (zip ks vs)) b;
+      cuts = ap (λ c. if c then zip ks vs else (k, x) ∷ without key (zip ks vs)) b;
+    },
+  )
+  some_step false j key k x ks vs m b e ih = let h = ih e in (
+    suc h.0,
+    omega (arith, h.1),
+    record {
+      inside = let l = h.2.inside in omega arith;
+      value = ap (λ c. if c then Some x else look key (zip ks vs)) b ∙ h.2.value;
+      puts = λ v. ap (λ c. if c then (k, v) ∷ zip ks vs else (k, x) ∷ put key v (zip ks vs)) b ∙ ap (λ l. (k, x) ∷ l) (h.2.puts v);
+      cuts = ap (λ c. if c then zip ks vs else (k, x) ∷ without key (zip ks vs)) b ∙ ap (λ l. (k, x) ∷ l) h.2.cuts;
+    },
+  )
 
   placed : (j : ℕ) (key : Key) (ks : List Key) (vs : List V) (m : ℕ) → length vs ≡ length ks → place_from j key ks ≡ Some m → (i : ℕ) × (m ≡ j + i) × Found key ks vs i
   placed j key [] vs m e p = search rules
@@ -224,7 +232,6 @@ has_key-front key (j ∷ ks) k h = let w = or_no (same_key j key) _ h in no_or _
 pub all_distinct-front : (ks : List Key) (k : Key) → IsTrue (all_distinct (ks ++ k ∷ [])) → IsTrue (all_distinct ks)
 all_distinct-front [] k h = refl
 all_distinct-front (j ∷ ks) k h = and_both _ _ (not_true _ (has_key-front j ks k (not_false _ (and_left _ _ h)))) (all_distinct-front ks k (and_right (not (has_key j (ks ++ k ∷ []))) _ h))
-
 
 test_below : (i n : ℕ) → i < n → nat_lt i n ≡ true
 test_below i n h = grind (arith, nat_tests)

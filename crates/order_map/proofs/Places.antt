@@ -1,5 +1,5 @@
 -- What callers need of places and of pairs, in words that do not change with the form of the map.
-use Rattle.std.proofs.Common.{rules, ◌≡◌, ℕ, Bool, true, false, List, [], ◌∷◌, ◌<◌, ◌≤◌, map, zip, refl, ap, ◌∙◌, Option, Some, None, length, arith, if◌then◌else◌, nat_lt, IsSome}
+use Rattle.std.proofs.Common.{◌≡◌, ℕ, true, false, List, [], ◌∷◌, ◌<◌, ◌≤◌, map, zip, refl, ap, Some, None, length, arith, if◌then◌else◌, nat_lt}
 use Rattle.std.proofs.lemmas.Bool.Decides.{nat_tests}
 use Rattle.order_map.specs.declared.key.Key.{Key}
 use Rattle.order_map.specs.declared.place.Place.{Place}

@@ -1,5 +1,5 @@
 -- Keys, and lists of keys.
-use Rattle.std.specs.Prelude.{List, [], ◌∷◌, ℕ, ℤ, pos, negsuc, ◌+◌, max, Bool, true, false, not, ◌&&◌, ◌||◌, nat_lt, nat_le, ◌^◌, IsTrue}
+use Rattle.std.specs.Prelude.{List, [], ◌∷◌, ℕ, pos, negsuc, ◌+◌, max, Bool, true, false, not, ◌&&◌, ◌||◌, nat_lt, ◌^◌}
 use Rattle.std.specs.Ordering.{int_eq}
 use Rattle.std.specs.Str.{bytes_eq}
 use Rattle.order_map.specs.declared.key.Key.{Key}

@@ -4,11 +4,9 @@
 mod key;
 mod map;
 mod place;
-mod text;
-
 #[cfg(test)]
 mod tests;
-
+mod text;
 
 pub use key::Key;
 pub use map::{AppendFault, OrderMap};

@@ -270,8 +270,7 @@ impl<V: Clone> Clone for OrderMap<V> {
     ghost is_clone = { λ map copy. IsCopy V.is_clone map copy };
 
     /// The same keys in the same order, a copy of each value, and the same next key.
-    fn clone(&self) -> Result<OrderMap<V>, AllocError>
-    {
+    fn clone(&self) -> Result<OrderMap<V>, AllocError> {
         let keys = self.keys.clone()?;
         let values = self.values.clone()?;
         let next = self.next;

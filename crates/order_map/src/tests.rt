@@ -11,7 +11,7 @@ fn text(alloc: Global, bytes: &[u8]) -> Result<Key, Fail> {
 fn shown(alloc: Global, map: &OrderMap<u32>) -> Result<String, Fail> {
     let mut out = String::new(alloc);
     let mut place = map.first();
-    for _ in 0..map.len() {
+    for _number in 0..map.len() {
         let Some(at) = place else {
             return Ok(out);
         };
@@ -72,6 +72,10 @@ fn a_copy_is_its_own(rt: HostRuntime) -> Result<(), Fail> {
     }
     assert!(rt; map.pop().is_none() && map.first().is_none());
     assert_eq!(rt; map.next_key(), Some(5));
+    let mut empty: OrderMap<u32> = OrderMap::new(alloc);
+    empty.raise_next(9);
+    empty.lower_next();
+    assert_eq!(rt; empty.next_key(), Some(8));
     Ok(())
 }
 

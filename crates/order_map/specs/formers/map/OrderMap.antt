@@ -1,8 +1,8 @@
 -- `OrderMap` as a type that may hold the type that holds it, by its values.
-use Rattle.std.specs.Prelude.{ℕ, length, map}
-use mathlib.Core.Path.{◌≡◌, refl, sym, ap, subst, ◌∙◌}
+use Rattle.std.specs.Prelude.{ℕ}
+use mathlib.Core.Path.{◌≡◌, refl, sym, subst}
 use mathlib.Core.List.{List, []}
-use mathlib.Core.Former.{Former, this, const, pair, list, via, children}
+use mathlib.Core.Former.{Former, this, const, pair, list, via}
 use base.Stored.{code_map}
 use lib.ListN.{length-map}
 use denote.RattleType.{RattleType}

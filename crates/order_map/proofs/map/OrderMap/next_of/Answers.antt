@@ -1,14 +1,6 @@
-use Rattle.std.proofs.Common.{rules, arith, sym, refl, ap, ◌∙◌, subst, zip, remove, ◌≡◌, ◌↔◌, ◌<◌, ◌≤◌, ◌+◌, ◌-◌, [], ◌∷◌, ◌++◌, ℕ, zero, suc, max, pos, length, slice_get, slice_set, get_or, IsTrue, Some, None, Err, is_some, if◌then◌else◌, IfOk, IfSome, OnOk, OnErr, MatchOption, Bool, true, false, nat_lt, List, Bor, MutBor, to_z, w64}
-use Rattle.std.proofs.lemmas.Grind.{common_steps}
-use Rattle.std.proofs.lemmas.Bool.Decides.{nat_tests}
-use Rattle.std.proofs.lemmas.Int.{ints}
-use Rattle.std.specs.Option.{option_copied}
-use Rattle.order_map.specs.Keys.{all_below, next_after, spent}
-use Rattle.order_map.specs.MapView.{IsSound}
-use Rattle.order_map.specs.Arrays.{pairs_of, next_of, place_of, IsPlace, IsArray, IsSameArray, AreCopies, keys_of, look, put, without}
-use Rattle.order_map.specs.Finding.{place_from}
-use Rattle.order_map.specs.declared.key.Key.TheVariants.{Int}
-use Rattle.order_map.proofs.Columns.{found_at, missing, zip-push, zip-length, zip-keys, zip-get, removed_length, array_of_columns, sound-push, sound-remove, sound-pop, zip-pop, look-next, next_after-there, all_below-more, placed_below, place_get, place_here, no_place, got, sound_by}
+use Rattle.std.proofs.Common.{rules, arith, ap, ◌∙◌, ◌+◌, length}
+use Rattle.order_map.specs.Arrays.{pairs_of, next_of, place_of}
+use Rattle.order_map.proofs.Columns.{placed_below, place_here, no_place}
 use Rattle.order_map.proofs.map.OrderMap.next_of.Goals as goal
 
 pub overflow_add-next : goal.overflow_add-next
@@ -17,8 +9,8 @@ overflow_add-next g c = let p = placed_below c.self.inside.keys.items c.self.ins
 
 pub returns-then-next-count : goal.returns-then-next-count
 unfolding pairs_of next_of place_of
-returns-then-next-count g c = λ i e. let p = placed_below c.self.inside.keys.items c.self.inside.values.items c.self.inside.next i c.args.self.now c.args.place c.self.view_is c.self.invariant.counted e in let q = c.at-next.ensures ∙ p.1 in let s = c.as_slice-count.ensures.value in let t = ap length s in  place_here c.self.inside.keys.items c.self.inside.values.items c.self.inside.next (i + 1) c.args.self.now c.new.result c.self.view_is c.self.invariant.counted (omega arith) (c.new.ensures ∙ ap (λ x. x + 1) q)
+returns-then-next-count g c = λ i e. let p = placed_below c.self.inside.keys.items c.self.inside.values.items c.self.inside.next i c.args.self.now c.args.place c.self.view_is c.self.invariant.counted e in let q = c.at-next.ensures ∙ p.1 in let s = c.as_slice-count.ensures.value in let t = ap length s in place_here c.self.inside.keys.items c.self.inside.values.items c.self.inside.next (i + 1) c.args.self.now c.new.result c.self.view_is c.self.invariant.counted (omega arith) (c.new.ensures ∙ ap (λ x. x + 1) q)
 
 pub returns-else-next-count : goal.returns-else-next-count
 unfolding pairs_of next_of place_of
-returns-else-next-count g c = λ i e. let p = placed_below c.self.inside.keys.items c.self.inside.values.items c.self.inside.next i c.args.self.now c.args.place c.self.view_is c.self.invariant.counted e in let q = c.at-next.ensures ∙ p.1 in let s = c.as_slice-count.ensures.value in let t = ap length s in  no_place c.self.inside.keys.items c.self.inside.values.items c.self.inside.next (i + 1) c.args.self.now c.self.view_is c.self.invariant.counted (omega arith)
+returns-else-next-count g c = λ i e. let p = placed_below c.self.inside.keys.items c.self.inside.values.items c.self.inside.next i c.args.self.now c.args.place c.self.view_is c.self.invariant.counted e in let q = c.at-next.ensures ∙ p.1 in let s = c.as_slice-count.ensures.value in let t = ap length s in no_place c.self.inside.keys.items c.self.inside.values.items c.self.inside.next (i + 1) c.args.self.now c.self.view_is c.self.invariant.counted (omega arith)

@@ -1,28 +1,21 @@
-use Rattle.std.proofs.Common.{rules, arith, sym, refl, ap, ◌∙◌, subst, zip, remove, ◌≡◌, ◌↔◌, ◌<◌, ◌≤◌, ◌+◌, ◌-◌, [], ◌∷◌, ◌++◌, ℕ, zero, suc, max, pos, length, slice_get, slice_set, get_or, IsTrue, Some, None, Err, is_some, if◌then◌else◌, IfOk, IfSome, OnOk, OnErr, MatchOption, Bool, true, false, nat_lt, List, Bor, MutBor, to_z, w64}
-use Rattle.std.proofs.lemmas.Grind.{common_steps}
-use Rattle.std.proofs.lemmas.Bool.Decides.{nat_tests}
-use Rattle.std.proofs.lemmas.Int.{ints}
-use Rattle.std.specs.Option.{option_copied}
-use Rattle.order_map.specs.Keys.{all_below, next_after, spent}
-use Rattle.order_map.specs.MapView.{IsSound}
-use Rattle.order_map.specs.Arrays.{pairs_of, next_of, place_of, IsPlace, IsArray, IsSameArray, AreCopies, keys_of, look, put, without}
+use Rattle.std.proofs.Common.{rules, sym, ap, ◌∙◌, zip, ◌≡◌, slice_set, Some, None}
+use Rattle.order_map.specs.Arrays.{pairs_of, next_of, place_of, look, put}
 use Rattle.order_map.specs.Finding.{place_from}
-use Rattle.order_map.specs.declared.key.Key.TheVariants.{Int}
-use Rattle.order_map.proofs.Columns.{found_at, missing, zip-push, zip-length, zip-keys, zip-get, removed_length, array_of_columns, sound-push, sound-remove, sound-pop, zip-pop, look-next, next_after-there, all_below-more, placed_below, place_get, place_here, no_place, got, sound_by}
+use Rattle.order_map.proofs.Columns.{found_at, missing, got}
 use Rattle.order_map.proofs.map.OrderMap.replace.Goals as goal
 
 pub index_mut-requires : goal.index_mut-requires
 unfolding pairs_of next_of place_of
-index_mut-requires g c = let is : place_from 0 c.args.key.now c.self.inside.keys.items ≡ Some c.in-Some.i = search rules in let h = found_at c.args.key.now c.self.inside.keys.items c.self.inside.values.items c.in-Some.i c.self.invariant.counted is in  let l = h.inside in search (rules, l)
+index_mut-requires g c = let is : place_from 0 c.args.key.now c.self.inside.keys.items ≡ Some c.in-Some.i = search rules in let h = found_at c.args.key.now c.self.inside.keys.items c.self.inside.values.items c.in-Some.i c.self.invariant.counted is in let l = h.inside in search (rules, l)
 
 pub returns-clause-found : goal.returns-clause-found
 unfolding pairs_of next_of place_of
-returns-clause-found g c = let is : place_from 0 c.args.key.now c.self.inside.keys.items ≡ Some c.in-Some.i = search rules in let h = found_at c.args.key.now c.self.inside.keys.items c.self.inside.values.items c.in-Some.i c.self.invariant.counted is in  ap Some c.replace.ensures.value ∙ sym (got c.self.inside.values.items c.in-Some.i _ h.inside c.index_mut.ensures.value) ∙ sym h.value ∙ ap (λ m. look c.args.key.now (pairs_of m)) c.self.view_is
+returns-clause-found g c = let is : place_from 0 c.args.key.now c.self.inside.keys.items ≡ Some c.in-Some.i = search rules in let h = found_at c.args.key.now c.self.inside.keys.items c.self.inside.values.items c.in-Some.i c.self.invariant.counted is in ap Some c.replace.ensures.value ∙ sym (got c.self.inside.values.items c.in-Some.i _ h.inside c.index_mut.ensures.value) ∙ sym h.value ∙ ap (λ m. look c.args.key.now (pairs_of m)) c.self.view_is
 
 pub returns-clause-pairs : goal.returns-clause-pairs
 unfolding pairs_of next_of place_of
-returns-clause-pairs g c = let is : place_from 0 c.args.key.now c.self.inside.keys.items ≡ Some c.in-Some.i = search rules in let h = found_at c.args.key.now c.self.inside.keys.items c.self.inside.values.items c.in-Some.i c.self.invariant.counted is in  ap (λ x. zip c.self.inside.keys.items (slice_set c.self.inside.values.items c.in-Some.i x)) c.replace.ensures.after ∙ sym (h.puts c.args.value) ∙ ap (λ m. put c.args.key.now c.args.value (pairs_of m)) c.self.view_is
+returns-clause-pairs g c = let is : place_from 0 c.args.key.now c.self.inside.keys.items ≡ Some c.in-Some.i = search rules in let h = found_at c.args.key.now c.self.inside.keys.items c.self.inside.values.items c.in-Some.i c.self.invariant.counted is in ap (λ x. zip c.self.inside.keys.items (slice_set c.self.inside.values.items c.in-Some.i x)) c.replace.ensures.after ∙ sym (h.puts c.args.value) ∙ ap (λ m. put c.args.key.now c.args.value (pairs_of m)) c.self.view_is
 
 pub returns-in_default-clause-found : goal.returns-in_default-clause-found
 unfolding pairs_of next_of place_of
-returns-in_default-clause-found g c = let is : place_from 0 c.args.key.now c.self.inside.keys.items ≡ None = search rules in let h = missing c.args.key.now c.self.inside.keys.items c.self.inside.values.items c.self.invariant.counted is in  sym h.value ∙ ap (λ m. look c.args.key.now (pairs_of m)) c.self.view_is
+returns-in_default-clause-found g c = let is : place_from 0 c.args.key.now c.self.inside.keys.items ≡ None = search rules in let h = missing c.args.key.now c.self.inside.keys.items c.self.inside.values.items c.self.invariant.counted is in sym h.value ∙ ap (λ m. look c.args.key.now (pairs_of m)) c.self.view_is
