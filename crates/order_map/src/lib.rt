@@ -1,0 +1,14 @@
+//! An ordered array: pairs of a key and a value in the order in which their keys came, with the next free number key.
+#![tactic(auto)]
+
+mod key;
+mod map;
+mod place;
+#[cfg(test)]
+mod tests;
+mod text;
+
+pub use key::Key;
+pub use map::{AppendFault, OrderMap};
+pub use place::Place;
+pub use text::ByteText;
