@@ -14,7 +14,8 @@ use Rattle.less_cmd.specs.declared.page.Front.{Front}
 use Rattle.less_cmd.specs.declared.page.Mode.{Mode}
 use Rattle.less_cmd.specs.declared.page.Mode.TheVariants.{Outside, Code}
 
-none_of : {A B : Type 0} (f : A → B) (read : Option A) → option_map f read ≡ None → read ≡ None
+-- nothing was mapped where nothing came out
+pub none_of : {A B : Type 0} (f : A → B) (read : Option A) → option_map f read ≡ None → read ≡ None
 none_of f None e = refl
 none_of f (Some x) e = cc
 

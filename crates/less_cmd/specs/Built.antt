@@ -58,14 +58,18 @@ abbrev pub short_text : Option (List ℕ) → Option (List ℕ)
 short_text None = None
 short_text (Some text) = if nat_le (length text) 1048576 then Some text else None
 
--- the page that the script asks for, where all of it is of a form that is built
-abbrev pub page_in : Files → List ℕ → Option (List Statement)
-page_in files script =
-    if is_request (fin.get files script) && is_page_alone (paths_below copy_folder files)
-    then option_and_then page_of (short_text (fin.get files page_path)) else None
+-- the text that the script asks for, where the script and the list of the copy are built
+abbrev pub text_in : Files → List ℕ → Option (List ℕ)
+text_in files script =
+    if is_request (fin.get files script) && is_page_alone (paths_below copy_folder files) then short_text (fin.get files page_path) else None
 
+-- the text that the words ask for
+abbrev pub text_of : List (List ℕ) → Files → Option (List ℕ)
+text_of words files = option_and_then (text_in files) (script_of words)
+
+-- the page that the words ask for, where all of it is of a form that is built
 abbrev pub built : List (List ℕ) → Files → Option (List Statement)
-built words files = option_and_then (page_in files) (script_of words)
+built words files = option_and_then page_of (text_of words files)
 
 -- ---- the run
 

@@ -1,4 +1,5 @@
 pub mod Built
+pub mod Judged
 pub mod Page
 pub mod Reading
 pub mod Reply

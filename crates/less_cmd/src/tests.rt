@@ -91,10 +91,9 @@ fn a_page_is_answered_with_its_bytes(rt: HostRuntime) -> Result<(), Fail> {
 #[test]
 fn what_is_not_built_writes_nothing(rt: HostRuntime) -> Result<(), Fail> {
     let alloc = rt.alloc();
-    let pages: [&[u8]; 8] = [
+    let pages: [&[u8]; 7] = [
         b"<?php echo 1;",
         b"<?php echo 'a'",
-        b"<?php echo 'a",
         b"<?php echo 'a',;",
         b"<?php # x",
         b"<?php print 'a';",
@@ -104,6 +103,44 @@ fn what_is_not_built_writes_nothing(rt: HostRuntime) -> Result<(), Fail> {
     for page in &pages {
         assert!(rt; plays(alloc, page, 1, b"")?);
     }
+    Ok(())
+}
+
+// Plays a page that is refused: whether nothing was written but exactly this note.
+fn refuses(alloc: Global, page: &[u8], note: &[u8]) -> Result<bool, Fail> {
+    let words = words(alloc, &["play", "script.txt"])?;
+    let files: [(&str, &[u8]); 2] = [("copies/guest/index.php", page), ("script.txt", REQUEST)];
+    let mut folder = folder(alloc, &files, &[])?;
+    let mut out = SinkMem::new(alloc, 4096, Vec::new(alloc))?;
+    let mut notes = SinkMem::new(alloc, 4096, Vec::new(alloc))?;
+    let ended = less_run(alloc, &words, &mut folder, &mut out, &mut notes);
+    Ok(ended == 10 && out.written().is_empty() && notes.written() == note)
+}
+
+#[test]
+fn a_page_without_tokens_is_refused_on_its_line(rt: HostRuntime) -> Result<(), Fail> {
+    let alloc = rt.alloc();
+    assert!(rt;
+        refuses(
+            alloc,
+            b"<?php\n1.5;",
+            b"less: copy guest index.php:2: badfile\n"
+        )?
+    );
+    assert!(rt;
+        refuses(
+            alloc,
+            b"<?php echo 'a",
+            b"less: copy guest index.php:1: badfile\n"
+        )?
+    );
+    assert!(rt;
+        refuses(
+            alloc,
+            b"\n\n<?php /* x\n",
+            b"less: copy guest index.php:3: badfile\n"
+        )?
+    );
     Ok(())
 }
 

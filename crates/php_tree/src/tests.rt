@@ -44,20 +44,32 @@ fn a_place_is_a_root_with_indexes_and_properties(rt: HostRuntime) -> Result<(), 
 }
 
 #[test]
-fn a_call_an_append_or_a_number_is_no_place(rt: HostRuntime) -> Result<(), Fail> {
+fn an_append_or_a_number_is_no_place(rt: HostRuntime) -> Result<(), Fail> {
+    let alloc = rt.alloc();
+    assert!(rt; !Expr::Int(1, 3).is_place());
+    assert!(rt; !post(alloc, Expr::Var(0, 3), Access::Append)?.is_place());
+    Ok(())
+}
+
+#[test]
+fn a_call_of_a_method_is_no_place(rt: HostRuntime) -> Result<(), Fail> {
     let alloc = rt.alloc();
     let name = MemberName {
         text: text(alloc, b"m")?,
     };
-    let f = FunName {
+    let method = Access::Method(name, Items::new(alloc));
+    assert!(rt; !post(alloc, Expr::Var(0, 3), method)?.is_place());
+    Ok(())
+}
+
+#[test]
+fn an_index_of_a_call_is_no_place(rt: HostRuntime) -> Result<(), Fail> {
+    let alloc = rt.alloc();
+    let name = FunName {
         text: text(alloc, b"f")?,
     };
-    let call = Expr::Call(f, Items::new(alloc), 5);
-    let method = Access::Method(name, Items::new(alloc));
+    let call = Expr::Call(name, Items::new(alloc), 5);
     let last = Access::Index(Expr::Int(2, 5));
-    assert!(rt; !Expr::Int(1, 3).is_place());
-    assert!(rt; !post(alloc, Expr::Var(0, 3), method)?.is_place());
-    assert!(rt; !post(alloc, Expr::Var(0, 3), Access::Append)?.is_place());
     assert!(rt; !post(alloc, call, last)?.is_place());
     Ok(())
 }
