@@ -11,7 +11,7 @@ use Rattle.php_values.specs.declared.op.ArithOp.{ArithOp}
 use Rattle.php_values.specs.declared.op.ArithOp.TheVariants.{Add, Subtract, Multiply, Divide, Remainder, Join}
 use Rattle.php_values.specs.Data.{Data, null, truth, int, bytes, array, object, ArrayData, of_pairs, count_of, Pairs, no_pairs, pair}
 use Rattle.php_values.specs.Answers.{Answer, and_then}
-use Rattle.php_values.specs.Convert.{Number, no_number, whole, float, leading_number, is_numeric, number_or_zero, zero_or_one, text_of}
+use Rattle.php_values.specs.Convert.{leading_number, number_or_zero, zero_or_one, text_of}
 use Rattle.php_values.specs.Compare.{value_of}
 
 -- the greatest length of a text, and the greatest count of pairs of an array

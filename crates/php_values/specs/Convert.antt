@@ -1,14 +1,16 @@
 -- Conversions to truth, text, number and key.
-use Rattle.std.specs.Prelude.{List, [], ◌∷◌, ℕ, ◌+◌, ◌-◌, ◌*◌, ◌^◌, ℤ, pos, negsuc, neg_ℤ, Bool, true, false, not, ◌&&◌, ◌||◌, ◌==◌, nat_lt, nat_le, drop, take, codes, if◌then◌else◌}
+use Rattle.std.specs.Prelude.{List, [], ◌∷◌, ℕ, ◌+◌, ◌-◌, ◌*◌, ◌^◌, ℤ, pos, negsuc, neg_ℤ, Bool, true, false, not, ◌&&◌, ◌||◌, ◌==◌, nat_lt, nat_le, length, drop, take, codes, if◌then◌else◌}
 use Rattle.std.specs.declared.option.Option.{Option}
 use Rattle.std.specs.declared.option.Option.TheVariants.{Some, None}
-use Rattle.std.specs.declared.result.Result.TheVariants.{Ok, Err}
+pub use Rattle.std.specs.declared.result.Result.TheVariants.{Ok, Err}
 use Rattle.std.specs.List.{prefix_len, list_all}
 use Rattle.std.specs.Str.{bytes_eq}
 use Rattle.std.specs.Fmt.{signed_decimal}
 use Rattle.order_map.specs.declared.key.Key.{Key}
 use Rattle.order_map.specs.declared.key.Key.TheVariants.{Int, Text}
 use Rattle.php_values.specs.declared.fault.ValueFault.TheVariants.{Float, Kind}
+use Rattle.php_values.specs.declared.number.Number.{Number}
+use Rattle.php_values.specs.declared.number.Number.TheVariants.{Missing, Whole, FloatForm}
 use Rattle.php_values.specs.Data.{Data, null, truth, int, bytes, array, object, ArrayData, array_pairs, Pairs, no_pairs, pair}
 use Rattle.php_values.specs.Answers.{Answer}
 
@@ -24,6 +26,9 @@ is_digit b = nat_le 48 b && nat_le b 57
 -- `+` or `-`
 abbrev pub is_sign : ℕ → Bool
 is_sign b = b == 43 || b == 45
+
+abbrev pub is_minus : ℕ → Bool
+is_minus b = b == 45
 
 -- whether a text begins with a byte of a kind
 abbrev pub begins : (ℕ → Bool) → List ℕ → Bool
@@ -50,12 +55,6 @@ signed true n = if nat_le n (2 ^ 63) then Some (neg_ℤ (pos n)) else None
 
 -- ---- the leading number of a text
 
--- a text that has no leading number, a number of 64 bits, or one of float form
-pub data Number : Type 0 where
-  no_number : Number
-  whole : ℤ → Number
-  float : Number
-
 abbrev pub is_point : ℕ → Bool
 is_point b = b == 46
 
@@ -75,7 +74,7 @@ abbrev pub unsigned_part : List ℕ → List ℕ
 unsigned_part t = after_one is_sign (after_all is_white t)
 
 abbrev pub is_negative : List ℕ → Bool
-is_negative t = begins (λ b. b == 45) (after_all is_white t)
+is_negative t = begins is_minus (after_all is_white t)
 
 -- what stands behind the digits of a number without a sign, and behind its point with the digits there
 abbrev pub after_whole : List ℕ → List ℕ
@@ -93,26 +92,33 @@ abbrev pub after_number : List ℕ → List ℕ
 after_number t = if begins_exponent (after_fraction t) then after_all is_digit (after_one is_sign (drop 1 (after_fraction t))) else after_fraction t
 
 abbrev pub whole_or_float : Option ℤ → Number
-whole_or_float (Some n) = whole n
-whole_or_float None = float
+whole_or_float (Some n) = Whole n
+whole_or_float None = FloatForm
+
+-- what stands of a text's number: whether there is one, whether it has a point or an exponent, and its value
+abbrev pub number_by : Bool → Bool → Option ℤ → Number
+number_by false form n = Missing
+number_by true true n = FloatForm
+number_by true false n = whole_or_float n
+
+-- the digits that a text begins with
+abbrev pub digits_of : List ℕ → List ℕ
+digits_of t = take (prefix_len is_digit t) t
 
 -- a text's leading number: it has float form where it has a point or an exponent, or is no number of 64 bits
 unfoldable pub leading_number : List ℕ → Number
 leading_number t =
-    if begins_number (unsigned_part t) then
-      (if has_float_form (unsigned_part t) then float
-      else whole_or_float (signed (is_negative t) (digits_from 0 (take (prefix_len is_digit (unsigned_part t)) (unsigned_part t)))))
-    else no_number
+    number_by (begins_number (unsigned_part t)) (has_float_form (unsigned_part t)) (signed (is_negative t) (digits_from 0 (digits_of (unsigned_part t))))
 
 -- whether a text's leading number is the whole text
 unfoldable pub is_numeric : List ℕ → Bool
-is_numeric t = begins_number (unsigned_part t) && bytes_eq (after_number (unsigned_part t)) []
+is_numeric t = begins_number (unsigned_part t) && (length (after_number (unsigned_part t)) == 0)
 
 -- the leading number, 0 where there is none
 abbrev pub number_or_zero : Number → Answer ℤ
-number_or_zero no_number = Ok (pos 0)
-number_or_zero (whole n) = Ok n
-number_or_zero float = Err Float
+number_or_zero Missing = Ok (pos 0)
+number_or_zero (Whole n) = Ok n
+number_or_zero FloatForm = Err Float
 
 -- ---- the table of conversions
 
@@ -120,12 +126,18 @@ abbrev pub has_pairs : Pairs → Bool
 has_pairs no_pairs = false
 has_pairs (pair k d ps) = true
 
+-- whether a text is neither empty nor `0`
+abbrev pub text_truth : List ℕ → Bool
+text_truth [] = false
+text_truth (b ∷ []) = not (b == 48)
+text_truth (b ∷ c ∷ t) = true
+
 abbrev pub truth_of : Data → Bool
 truth_of null = false
 truth_of (truth b) = b
 truth_of (int (pos n)) = not (n == 0)
 truth_of (int (negsuc n)) = true
-truth_of (bytes t) = not (bytes_eq t [] || bytes_eq t (codes "0"))
+truth_of (bytes t) = text_truth t
 truth_of (array a) = has_pairs (array_pairs a)
 truth_of (object n) = true
 
@@ -150,14 +162,17 @@ int_of (bytes t) = number_or_zero (leading_number t)
 int_of (array a) = Ok (zero_or_one (has_pairs (array_pairs a)))
 int_of (object n) = Err Kind
 
+abbrev pub is_nonzero : ℕ → Bool
+is_nonzero b = nat_le 49 b
+
 abbrev pub normal_from : Bool → List ℕ → Option ℤ
-normal_from negative t = if begins (λ b. nat_le 49 b) t && list_all is_digit t then signed negative (digits_from 0 t) else None
+normal_from negative t = if begins is_nonzero t && list_all is_digit t then signed negative (digits_from 0 t) else None
 
 -- the number of 64 bits whose decimal text this is, without a sign but `-` and without a leading zero
 unfoldable pub normal_number : List ℕ → Option ℤ
 normal_number t =
     if bytes_eq t (codes "0") then Some (pos 0)
-    else normal_from (begins (λ b. b == 45) t) (after_one (λ b. b == 45) t)
+    else normal_from (begins is_minus t) (after_one is_minus t)
 
 abbrev pub text_key : Option ℤ → List ℕ → Key
 text_key (Some n) t = Int n
