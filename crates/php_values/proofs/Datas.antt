@@ -1,5 +1,5 @@
 -- The data of values, variant by variant, and of pairs.
-use Rattle.std.proofs.Common.{rules, ◌≡◌, ℕ, ℤ, Bool, true, false, not, List, [], ◌∷◌, refl, sym, ap, ◌∙◌, map, length, nat_eq, arith}
+use Rattle.std.proofs.Common.{◌≡◌, not, List, [], ◌∷◌, refl, sym, ap, ◌∙◌, map, length, nat_eq, arith}
 use Rattle.order_map.specs.declared.key.Key.{Key}
 use Rattle.order_map.specs.MapView.{MapView, mapped}
 use Rattle.order_map.specs.Arrays.{pairs_of, next_of, AreCopies, IsCopy}
@@ -8,7 +8,7 @@ use Rattle.php_values.specs.declared.value.Value.{Value, fold-roll-Value}
 use Rattle.php_values.specs.declared.value.ArrayValue.{ArrayValue, fold_out-ArrayValue}
 use Rattle.php_values.specs.declared.value.Value.TheVariants as kind
 use Rattle.php_values.specs.declared.value.Value.TheOpen.{Value-F}
-use Rattle.php_values.specs.Data.{Data, null, truth, int, bytes, array, object, ArrayData, Pairs, no_pairs, pair, of_pairs, data_of, array_of, map_data, pairs_data, data_step, array_step, data_pairs}
+use Rattle.php_values.specs.Data.{Data, array, ArrayData, pair, of_pairs, data_of, array_of, map_data, pairs_data, data_step, array_step, data_pairs}
 use Rattle.php_values.specs.Convert.{has_pairs}
 
 pairs-mapped : (ps : List (Key × Value)) → pairs_data (map (λ p. (p.0, data_of p.1)) ps) ≡ data_pairs ps

@@ -5,10 +5,9 @@ mod convert;
 mod fault;
 mod number;
 mod op;
-mod value;
-
 #[cfg(test)]
 mod tests;
+mod value;
 
 pub use convert::{key_of, to_int, to_text, truth};
 pub use fault::ValueFault;
