@@ -1,0 +1,2 @@
+pub mod Datas
+pub mod Digits

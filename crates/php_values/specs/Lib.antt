@@ -1,0 +1,5 @@
+pub mod Data
+pub mod Answers
+pub mod Convert
+pub mod Compare
+pub mod Arithmetic
