@@ -55,7 +55,7 @@ asked words files script named = ap (option_and_then (text_in files)) (sym named
 
 played_page : (text : Option (List ℕ)) (run : PageRun) (P : RunResult → Type 0) → ReadOf text (Played run) → P (closed script_path run) → IsSomeAnd (option_and_then page_of text) (λ page. P (page_result page))
 played_page None run P read fact = absurd read
-played_page (Some text) run P read fact = fits_page (page_of text) (closed script_path run) P read.1 fact
+played_page (Some text) run P read fact = fits_page (page_of text) (closed script_path run) P read fact
 
 -- a fact of what a run came to is one of the page that the words ask for
 pub of_the_page : (told : Option Files) (words : List (List ℕ)) (script : List ℕ) (run : PageRun) (P : RunResult → Type 0) → script_of words ≡ Some script → IfSome told (λ files. ReadOf (text_in files script) (Played run)) → P (closed script_path run) → IfSome told (λ files. IsSomeAnd (built words files) (λ page. P (page_result page)))

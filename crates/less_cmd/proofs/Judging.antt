@@ -1,5 +1,5 @@
 -- How a text is judged.
-use Rattle.std.proofs.Common.{◌≡◌, ℕ, List, ◌∙◌, ap, Option, None, Some}
+use Rattle.std.proofs.Common.{◌≡◌, ℕ, List, ◌∙◌, ap, Option, None}
 use Rattle.std.specs.Option.{option_map}
 use Rattle.less_terms.specs.Lines.{line_at}
 use Rattle.php_lexer.specs.Tokens.{IsTokens, IsFirstFault}
@@ -9,8 +9,7 @@ use Rattle.php_frames.specs.Progress.{closed}
 use Rattle.php_frames.specs.declared.page_run.PageRun.{PageRun}
 use Rattle.less_cmd.specs.Page.{page_of}
 use Rattle.less_cmd.specs.Built.{page_result, script_path}
-use Rattle.less_cmd.specs.Judged.{HasTokens, IsRefused, TextRead}
-use Rattle.less_cmd.specs.declared.play.Read.TheVariants.{Played, NotBuilt}
+use Rattle.less_cmd.specs.Judged.{HasTokens, IsRefused}
 use Rattle.less_cmd.proofs.Steps.{none_of}
 
 pub has_tokens : (text : List ℕ) (tokens : List Mark) → IsTokens text tokens → HasTokens text
@@ -19,8 +18,5 @@ has_tokens text tokens are = record { tokens = tokens; are = are }
 pub is_refused : (text : List ℕ) (place line : ℕ) (kind : LexKind) → IsFirstFault text place kind → line ≡ line_at text place → IsRefused text line
 is_refused text place line kind fault on_line = record { place = place; kind = kind; fault = fault; on_line = on_line }
 
-pub played : (text : List ℕ) (found : Option PageRun) (run : PageRun) → HasTokens text → option_map page_result (page_of text) ≡ option_map (closed script_path) found → found ≡ Some run → TextRead text (Played run)
-played text found run tokens ran is = (tokens, ran ∙ ap (option_map (closed script_path)) is)
-
-pub not_built : (text : List ℕ) (found : Option PageRun) → HasTokens text → option_map page_result (page_of text) ≡ option_map (closed script_path) found → found ≡ None → TextRead text NotBuilt
-not_built text found tokens ran is = (tokens, none_of page_result (page_of text) (ran ∙ ap (option_map (closed script_path)) is))
+pub no_page : (text : List ℕ) (found : Option PageRun) → option_map page_result (page_of text) ≡ option_map (closed script_path) found → found ≡ None → page_of text ≡ None
+no_page text found ran is = none_of page_result (page_of text) (ran ∙ ap (option_map (closed script_path)) is)

@@ -1,4 +1,4 @@
--- How the text of a copy is judged: refused where it has no tokens, then built or not.
+-- How the text of a copy is judged: a plain page is played; of the others, one without tokens is refused.
 use Rattle.std.specs.Prelude.{◌≡◌, ℕ, ⊤, List, Option, None, Some}
 use Rattle.std.specs.Option.{option_map}
 use Rattle.less_terms.specs.Lines.{line_at}
@@ -30,9 +30,9 @@ IsLexed text (Some line) = IsRefused text line
 
 -- what reading and running a text gave
 abbrev pub TextRead : List ℕ → Read → Type 0
-TextRead text (Played run) = HasTokens text × (option_map page_result (page_of text) ≡ Some (closed script_path run))
+TextRead text (Played run) = option_map page_result (page_of text) ≡ Some (closed script_path run)
 TextRead text NotBuilt = HasTokens text × (page_of text ≡ None)
-TextRead text (Refused line) = IsRefused text line
+TextRead text (Refused line) = IsRefused text line × (page_of text ≡ None)
 
 -- the same where there may be no text that could be asked for
 abbrev pub ReadOf : Option (List ℕ) → Read → Type 0
@@ -46,7 +46,7 @@ abbrev pub IsNotBuilt : Option (List ℕ) → Type 0
 IsNotBuilt None = ⊤
 IsNotBuilt (Some text) = HasTokens text × (page_of text ≡ None)
 
--- a text is there and is refused on this line
+-- a text is there, is of no form that is built, and is refused on this line
 abbrev pub IsRefusedOn : Option (List ℕ) → ℕ → Type 0
 IsRefusedOn None line = ⊥
-IsRefusedOn (Some text) line = IsRefused text line
+IsRefusedOn (Some text) line = IsRefused text line × (page_of text ≡ None)

@@ -145,16 +145,16 @@ fn faulty_line(alloc: Global, text: &[u8]) -> Result<Option<u32>, AllocError>
     }
 }
 
-// Runs a text that has tokens.
+// Runs a plain page, and judges every other text by its tokens.
 fn run_text(alloc: Global, text: &[u8]) -> Result<Read, AllocError>
     requires { length text.now ≤ 1048576 }
     ensures { IfOk result (TextRead text.now) }
 {
-    if let Some(line) = faulty_line(alloc, text)? {
-        return Ok(Read::Refused(line));
+    if let Some(run) = run_page(alloc, text, BUDGET)? {
+        return Ok(Read::Played(run));
     }
-    match run_page(alloc, text, BUDGET)? {
-        Some(run) => Ok(Read::Played(run)),
+    match faulty_line(alloc, text)? {
+        Some(line) => Ok(Read::Refused(line)),
         None => Ok(Read::NotBuilt),
     }
 }
