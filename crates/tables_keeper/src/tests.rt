@@ -28,7 +28,8 @@ fn insert(
         row: cells,
         unique: text(alloc, unique)?,
     };
-    Ok(tables.apply(alloc, &op)?.0)
+    let (reply, _change) = tables.apply(alloc, &op)?;
+    Ok(reply)
 }
 
 fn find(
@@ -42,9 +43,15 @@ fn find(
         column: text(alloc, column)?,
         text: text(alloc, sought)?,
     };
-    match tables.apply(alloc, &op)?.0 {
-        TableReply::Rows(rows) => Ok(rows.len()),
-        _ => Ok(999),
+    let (reply, _change) = tables.apply(alloc, &op)?;
+    Ok(count_of(&reply))
+}
+
+/// How many rows a reply has, or 999 where it is none of rows.
+fn count_of(reply: &TableReply) -> usize {
+    match reply {
+        TableReply::Rows(rows) => rows.len(),
+        _ => 999,
     }
 }
 
@@ -62,63 +69,92 @@ fn why(reply: &TableReply) -> Option<TableRefusal> {
     }
 }
 
+/// Whether a reply is a row with these columns, each name with its value's text.
+fn shows(reply: &TableReply, wanted: &[(&[u8], &[u8])]) -> bool {
+    let got = match reply {
+        TableReply::Row(row) => row,
+        _ => return false,
+    };
+    if got.len() != wanted.len() {
+        return false;
+    }
+    for (column, (name, value)) in got.columns().iter().zip(wanted) {
+        if column.name.as_slice() != *name || !column.cell.has_text(value) {
+            return false;
+        }
+    }
+    true
+}
+
+fn add(alloc: Global, tables: &mut Tables) -> Result<TableReply, AllocError> {
+    let cells = row(alloc, &[(b"v", b"a")])?;
+    insert(alloc, tables, cells, b"v")
+}
+
+fn get(alloc: Global, tables: &mut Tables) -> Result<TableReply, AllocError> {
+    let op = TableOp::Get {
+        table: text(alloc, b"t")?,
+        id: 1,
+    };
+    let (reply, _change) = tables.apply(alloc, &op)?;
+    Ok(reply)
+}
+
+fn delete(alloc: Global, tables: &mut Tables, id: i64) -> Result<TableReply, AllocError> {
+    let op = TableOp::Delete {
+        table: text(alloc, b"t")?,
+        id,
+    };
+    let (reply, _change) = tables.apply(alloc, &op)?;
+    Ok(reply)
+}
+
 #[test]
-fn a_row_is_inserted_found_updated_got_and_deleted(rt: HostRuntime) -> Result<(), Fail> {
+fn a_second_row_of_a_unique_column_is_a_duplicate(rt: HostRuntime) -> Result<(), Fail> {
     let alloc = rt.alloc();
     let mut tables = Tables::new(alloc);
-    let reply = insert(alloc, &mut tables, row(alloc, &[(b"v", b"a")])?, b"v")?;
-    assert_eq!(rt; id_of(&reply), 1);
-    let reply = insert(alloc, &mut tables, row(alloc, &[(b"v", b"a")])?, b"v")?;
-    assert_eq!(rt; why(&reply), Some(TableRefusal::Duplicate));
+    assert_eq!(rt; id_of(&add(alloc, &mut tables)?), 1);
+    assert_eq!(rt;
+        why(&add(alloc, &mut tables)?),
+        Some(TableRefusal::Duplicate)
+    );
     assert_eq!(rt; find(alloc, &mut tables, b"v", b"a")?, 1);
-    let update = TableOp::Update {
-        table: text(alloc, b"t")?,
-        id: 1,
-        row: row(alloc, &[(b"id", b"9"), (b"w", b"c"), (b"v", b"b")])?,
-    };
-    let (reply, change) = tables.apply(alloc, &update)?;
-    assert!(rt; matches!(reply, TableReply::Done));
-    assert!(rt; matches!(change, Some(Change::Put { id: 1, .. })));
-    let get = TableOp::Get {
-        table: text(alloc, b"t")?,
-        id: 1,
-    };
-    let TableReply::Row(got) = tables.apply(alloc, &get)?.0 else {
-        assert!(rt; false);
-        return Ok(());
-    };
-    assert_eq!(rt; got.len(), 3);
-    assert_eq!(rt; got.columns()[0].name.as_slice(), b"id".as_slice());
-    assert_eq!(rt; got.columns()[1].name.as_slice(), b"v".as_slice());
-    assert!(rt; got.columns()[1].cell.has_text(b"b"));
-    assert_eq!(rt; got.columns()[2].name.as_slice(), b"w".as_slice());
-    let delete = TableOp::Delete {
-        table: text(alloc, b"t")?,
-        id: 1,
-    };
-    let (reply, change) = tables.apply(alloc, &delete)?;
-    assert!(rt; matches!(reply, TableReply::Done));
-    assert!(rt; matches!(change, Some(Change::Drop { id: 1, .. })));
-    assert_eq!(rt; find(alloc, &mut tables, b"v", b"b")?, 0);
-    let (reply, change) = tables.apply(alloc, &get)?;
-    assert_eq!(rt; why(&reply), Some(TableRefusal::NoRow));
-    assert!(rt; change.is_none());
     Ok(())
 }
 
 #[test]
-fn an_id_is_given_once(rt: HostRuntime) -> Result<(), Fail> {
+fn an_update_sets_in_place_and_puts_new_columns_last(rt: HostRuntime) -> Result<(), Fail> {
+    let alloc = rt.alloc();
+    let mut tables = Tables::new(alloc);
+    let _made = add(alloc, &mut tables)?;
+    let op = TableOp::Update {
+        table: text(alloc, b"t")?,
+        id: 1,
+        row: row(alloc, &[(b"id", b"9"), (b"w", b"c"), (b"v", b"b")])?,
+    };
+    let (_reply, change) = tables.apply(alloc, &op)?;
+    assert!(rt; change.is_some());
+    let got = get(alloc, &mut tables)?;
+    assert!(rt; shows(&got, &[(b"id", b"1"), (b"v", b"b"), (b"w", b"c")]));
+    Ok(())
+}
+
+#[test]
+fn a_deleted_row_is_gone_and_its_id_is_not_given_again(rt: HostRuntime) -> Result<(), Fail> {
     let alloc = rt.alloc();
     let mut tables = Tables::new(alloc);
     for id in 1..4 {
-        let reply = insert(alloc, &mut tables, row(alloc, &[(b"v", b"a")])?, b"")?;
-        assert_eq!(rt; id_of(&reply), id);
-        let delete = TableOp::Delete {
-            table: text(alloc, b"t")?,
-            id,
-        };
-        assert!(rt; matches!(tables.apply(alloc, &delete)?.0, TableReply::Done));
+        assert_eq!(rt; id_of(&add(alloc, &mut tables)?), id);
+        assert!(rt; why(&delete(alloc, &mut tables, id)?).is_none());
+        assert_eq!(rt;
+            why(&delete(alloc, &mut tables, id)?),
+            Some(TableRefusal::NoRow)
+        );
     }
+    assert_eq!(rt;
+        why(&delete(alloc, &mut tables, -1)?),
+        Some(TableRefusal::NoRow)
+    );
     assert_eq!(rt; find(alloc, &mut tables, b"v", b"a")?, 0);
     Ok(())
 }
@@ -206,7 +242,7 @@ fn there_are_a_hundred_tables_at_most(rt: HostRuntime) -> Result<(), Fail> {
             row: RowCells::new(alloc),
             unique: text(alloc, b"")?,
         };
-        let reply = tables.apply(alloc, &op)?.0;
+        let (reply, _change) = tables.apply(alloc, &op)?;
         if number < 100 {
             assert_eq!(rt; id_of(&reply), 1);
         } else {
@@ -216,9 +252,7 @@ fn there_are_a_hundred_tables_at_most(rt: HostRuntime) -> Result<(), Fail> {
     let all = TableOp::All {
         table: text(alloc, b"none")?,
     };
-    assert_eq!(rt;
-        why(&tables.apply(alloc, &all)?.0),
-        Some(TableRefusal::NoTable)
-    );
+    let (reply, _change) = tables.apply(alloc, &all)?;
+    assert_eq!(rt; why(&reply), Some(TableRefusal::NoTable));
     Ok(())
 }
