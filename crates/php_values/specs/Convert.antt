@@ -11,7 +11,7 @@ use Rattle.order_map.specs.declared.key.Key.TheVariants.{Int, Text}
 use Rattle.php_values.specs.declared.fault.ValueFault.TheVariants.{Float, Kind}
 use Rattle.php_values.specs.declared.number.Number.{Number}
 use Rattle.php_values.specs.declared.number.Number.TheVariants.{Missing, Whole, FloatForm}
-use Rattle.php_values.specs.Data.{Data, null, truth, int, bytes, array, object, ArrayData, array_pairs, Pairs, no_pairs, pair}
+use Rattle.php_values.specs.Data.{Data, null, truth, int, bytes, array, object, array_pairs, Pairs, no_pairs, pair}
 use Rattle.php_values.specs.Answers.{Answer}
 
 -- ---- the bytes of numbers

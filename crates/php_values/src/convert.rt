@@ -27,7 +27,7 @@ pub fn truth(value: &Value) -> bool
 }
 
 // Whether a text is neither empty nor `0`.
-fn text_truth(text: &ByteText) -> bool
+pub(crate) fn text_truth(text: &ByteText) -> bool
     ensures { result ≡ spec.text_truth text.now }
 {
     match text.as_slice() {
@@ -37,7 +37,7 @@ fn text_truth(text: &ByteText) -> bool
     }
 }
 
-fn number_or_zero(number: Number) -> Result<i64, ValueFault>
+pub(crate) fn number_or_zero(number: Number) -> Result<i64, ValueFault>
     ensures { Gives (spec.number_or_zero number) result }
 {
     match number {

@@ -2,13 +2,13 @@
 #![tactic(auto)]
 
 mod convert;
+mod equal;
 mod fault;
 mod number;
 mod op;
+mod order;
 mod value;
 
-#[cfg(test)]
-mod tests;
 
 pub use convert::{key_of, to_int, to_text, truth};
 pub use fault::ValueFault;
