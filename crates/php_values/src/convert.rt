@@ -27,7 +27,7 @@ pub fn truth(value: &Value) -> bool
 }
 
 // Whether a text is neither empty nor `0`.
-pub(crate) fn text_truth(text: &ByteText) -> bool
+fn text_truth(text: &ByteText) -> bool
     ensures { result ≡ spec.text_truth text.now }
 {
     match text.as_slice() {
@@ -47,7 +47,7 @@ pub(crate) fn number_or_zero(number: Number) -> Result<i64, ValueFault>
     }
 }
 
-fn zero_or_one(b: bool) -> Result<i64, ValueFault>
+pub(crate) fn zero_or_one(b: bool) -> Result<i64, ValueFault>
     ensures { Gives (spec.Ok (spec.zero_or_one b)) result }
 {
     if b { Ok(1) } else { Ok(0) }

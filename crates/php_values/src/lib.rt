@@ -1,12 +1,13 @@
 //! Values of PHP's profile: their kinds, conversions, comparisons and arithmetic.
 #![tactic(auto)]
 
+
 mod convert;
-mod equal;
 mod fault;
 mod number;
 mod op;
-mod order;
+mod operands;
+mod union;
 mod value;
 
 
@@ -14,4 +15,5 @@ pub use convert::{key_of, to_int, to_text, truth};
 pub use fault::ValueFault;
 pub use number::{Number, is_numeric, leading_number, normal_number};
 pub use op::ArithOp;
+pub use union::arith;
 pub use value::{ArrayValue, Value, copied, copy_value};
