@@ -10,7 +10,7 @@ use Rattle.std.specs.declared.cmp.Ordering.TheVariants.{Less, Equal, Greater}
 use Rattle.std.specs.Str.{bytes_eq}
 use Rattle.order_map.specs.declared.key.Key.{Key}
 use Rattle.order_map.specs.Keys.{same_key}
-use Rattle.php_values.specs.declared.fault.ValueFault.TheVariants.{Float, Kind}
+use Rattle.php_values.specs.declared.fault.ValueFault.TheVariants.{Kind}
 use Rattle.php_values.specs.Data.{Data, null, truth, int, bytes, array, object, ArrayData, of_pairs, array_pairs, count_of, Pairs, no_pairs, pair}
 use Rattle.php_values.specs.Answers.{Answer, and_then}
 use Rattle.php_values.specs.Convert.{leading_number, is_numeric, number_or_zero, text_truth, truth_of}

@@ -1,7 +1,6 @@
 //! Values of PHP's profile: their kinds, conversions, comparisons and arithmetic.
 #![tactic(auto)]
 
-
 mod convert;
 mod fault;
 mod number;
@@ -10,6 +9,8 @@ mod operands;
 mod union;
 mod value;
 
+#[cfg(test)]
+mod tests;
 
 pub use convert::{key_of, to_int, to_text, truth};
 pub use fault::ValueFault;

@@ -116,7 +116,11 @@ fn begins_mark(text: &[u8]) -> bool
 fn rest(text: &[u8]) -> &[u8]
     ensures { result.now ≡ drop 1 text.now }
 {
-    if text.is_empty() { text } else { text.split_at(1).1 }
+    if text.is_empty() {
+        text
+    } else {
+        text.split_at(1).1
+    }
 }
 
 fn after_sign(text: &[u8]) -> &[u8]

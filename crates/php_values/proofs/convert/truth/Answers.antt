@@ -1,4 +1,4 @@
-use Rattle.std.proofs.Common.{◌≡◌, ◌∙◌, ap, sym}
+use Rattle.std.proofs.Common.{◌∙◌, ap, sym}
 use Rattle.php_values.specs.Data.{data_of}
 use Rattle.php_values.specs.Convert.{truth_of}
 use Rattle.php_values.proofs.Datas.{data-List}

@@ -1,4 +1,4 @@
-use Rattle.std.proofs.Common.{◌≡◌, ◌∙◌, ap, sym, true, false, ◌&&◌, ◌==◌, length}
+use Rattle.std.proofs.Common.{◌∙◌, ap, sym, ◌&&◌, ◌==◌, length}
 use Rattle.php_values.specs.Convert.{is_numeric, begins_number, after_number, unsigned_part}
 use Rattle.php_values.proofs.number.is_numeric.Goals as goal
 

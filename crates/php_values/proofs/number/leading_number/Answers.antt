@@ -1,5 +1,5 @@
-use Rattle.std.proofs.Common.{◌≡◌, ◌∙◌, ap, sym}
-use Rattle.php_values.specs.Convert.{leading_number, number_by, begins_number, has_float_form, unsigned_part, is_negative, signed, digits_from, digits_of}
+use Rattle.std.proofs.Common.{◌∙◌, ap}
+use Rattle.php_values.specs.Convert.{leading_number, number_by, begins_number, has_float_form, signed, digits_from, digits_of}
 use Rattle.php_values.proofs.number.leading_number.Goals as goal
 
 pub returns : goal.returns

@@ -1,5 +1,4 @@
-use Rattle.std.proofs.Common.{◌≡◌, ◌∙◌, ap, sym, true, false, Some, pos, codes, if◌then◌else◌}
-use Rattle.std.specs.Str.{bytes_eq}
+use Rattle.std.proofs.Common.{◌∙◌, ap, sym, Some, pos, if◌then◌else◌}
 use Rattle.php_values.specs.Convert.{normal_number, normal_from, begins, is_minus, after_one}
 use Rattle.php_values.proofs.number.normal_number.Goals as goal
 

@@ -1,4 +1,4 @@
-use Rattle.std.proofs.Common.{◌≡◌, ◌∙◌, ap, not, nat_eq, length}
+use Rattle.std.proofs.Common.{◌∙◌, ap, not, nat_eq, length}
 use Rattle.order_map.specs.Arrays.{pairs_of}
 use Rattle.php_values.proofs.Datas.{has_pairs-length}
 use Rattle.php_values.proofs.value.ArrayValue.has_pairs.Goals as goal

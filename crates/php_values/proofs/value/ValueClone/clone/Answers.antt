@@ -1,4 +1,4 @@
-use Rattle.std.proofs.Common.{◌≡◌, ◌∙◌, ap, sym}
+use Rattle.std.proofs.Common.{◌∙◌, ap, sym}
 use Rattle.php_values.specs.Data.{data_of, array}
 use Rattle.php_values.proofs.Datas.{data-List}
 use Rattle.php_values.proofs.value.ValueClone.clone.Goals as goal
