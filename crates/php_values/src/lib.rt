@@ -6,11 +6,10 @@ mod fault;
 mod number;
 mod op;
 mod operands;
-mod union;
-mod value;
-
 #[cfg(test)]
 mod tests;
+mod union;
+mod value;
 
 pub use convert::{key_of, to_int, to_text, truth};
 pub use fault::ValueFault;

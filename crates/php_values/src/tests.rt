@@ -1,6 +1,6 @@
 use crate::{
-    ArithOp, ArrayValue, Number, Value, ValueFault, arith, copied, copy_value, is_numeric, key_of, leading_number,
-    normal_number, to_int, to_text, truth,
+    ArithOp, ArrayValue, Number, Value, ValueFault, arith, copied, copy_value, is_numeric, key_of,
+    leading_number, normal_number, to_int, to_text, truth,
 };
 use order_map::{ByteText, Key, OrderMap};
 use std::alloc::Global;
@@ -227,16 +227,30 @@ fn whole_numbers_are_exact(rt: HostRuntime) {
     assert!(rt; number_of(alloc, ArithOp::Remainder, 7, 0) == Err(ValueFault::Zero));
 }
 
+fn is_text(value: &Value, bytes: &[u8]) -> bool {
+    match value {
+        Value::Bytes(t) => t.as_slice() == bytes,
+        _ => false,
+    }
+}
+
+fn count_of(value: &Value) -> usize {
+    match value {
+        Value::List(array) => array.map.as_ref().len(),
+        _ => 0,
+    }
+}
+
 #[test]
 fn sums_of_texts_and_arrays(rt: HostRuntime) -> Result<(), Fail> {
     let alloc = rt.alloc();
-    let joined = arith(alloc, ArithOp::Join, &text(alloc, b"a")?, &Value::Int(1));
-    assert!(rt; matches!(joined, Ok(Value::Bytes(t)) if t.as_slice() == b"a1".as_slice()));
-    let sum = arith(alloc, ArithOp::Add, &text(alloc, b"a1")?, &Value::Int(2));
-    assert!(rt; matches!(sum, Ok(Value::Int(2))));
-    let both = arith(alloc, ArithOp::Add, &list(alloc, 2)?, &list(alloc, 3)?);
-    assert!(rt; matches!(both, Ok(Value::List(a)) if a.map.as_ref().len() == 3));
+    let joined = arith(alloc, ArithOp::Join, &text(alloc, b"a")?, &Value::Int(1))?;
+    assert!(rt; is_text(&joined, b"a1"));
+    let sum = arith(alloc, ArithOp::Add, &text(alloc, b"a1")?, &Value::Int(2))?;
+    assert!(rt; matches!(sum, Value::Int(2)));
+    let both = arith(alloc, ArithOp::Add, &list(alloc, 2)?, &list(alloc, 3)?)?;
+    assert!(rt; count_of(&both) == 3);
     let mixed = arith(alloc, ArithOp::Add, &list(alloc, 2)?, &Value::Int(1));
-    assert!(rt; matches!(mixed, Err(ValueFault::Kind)));
+    assert!(rt; mixed.is_err());
     Ok(())
 }

@@ -6,9 +6,9 @@ ghost use Rattle.php_values.specs.Data.{array, data_of, array_of, data_pairs};
 ghost use Rattle.php_values.specs.Answers.{GivesData};
 ghost use Rattle.php_values.specs.Arithmetic as spec;
 
-use crate::operands::{add_numbers, divide, join, multiply, rest_of, subtract};
 use crate::fault::ValueFault;
 use crate::op::ArithOp;
+use crate::operands::{add_numbers, divide, join, multiply, rest_of, subtract};
 use crate::value::{ArrayValue, Value, copied};
 use order_map::{Key, OrderMap};
 use std::alloc::{AllocError, Global};

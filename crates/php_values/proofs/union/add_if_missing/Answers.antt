@@ -10,4 +10,4 @@ returns-then-is_some c =
 pub returns : goal.returns
 returns c =
     added c.args.key.now c.in_ok-key.key (data_of c.args.value.now) c.in_ok-value.value c.args.map.now c.set.new.self c.in_ok-key.ensures.cases c.in_ok-value.ensures.cases
-        (copied_none c.get.result _ (sym c.is_some.ensures ∙ c.if-is_some.false) c.get.ensures) c.in_ok-_none.ensures.pairs c.in_ok-_none.ensures.next
+    (copied_none c.get.result _ (sym c.is_some.ensures ∙ c.if-is_some.false) c.get.ensures) c.in_ok-_none.ensures.pairs c.in_ok-_none.ensures.next
