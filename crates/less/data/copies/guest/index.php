@@ -1,0 +1,2 @@
+Hi <?php echo 'x'; ?>
+!

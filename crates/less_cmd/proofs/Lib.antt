@@ -1,0 +1,5 @@
+pub mod Echoes
+pub mod Folders
+pub mod Quoting
+pub mod Statuses
+pub mod Steps

@@ -1,0 +1,5 @@
+pub mod Built
+pub mod Page
+pub mod Reading
+pub mod Reply
+pub mod Status

@@ -1,0 +1,4 @@
+pub mod Calls
+pub mod Consumed
+pub mod FilesOf
+pub mod Taken

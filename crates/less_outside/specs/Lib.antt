@@ -1,0 +1,15 @@
+pub mod Clock
+pub mod ClockReal
+pub mod Files
+pub mod Folder
+pub mod FolderMem
+pub mod FolderReal
+pub mod Ids
+pub mod IdsReal
+pub mod Link
+pub mod LinkMem
+pub mod LinkReal
+pub mod Sink
+pub mod SinkMem
+pub mod SinkReal
+pub mod Told

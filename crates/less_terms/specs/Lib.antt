@@ -1,0 +1,4 @@
+pub mod Causes
+pub mod Decimals
+pub mod Forms
+pub mod Lines

@@ -1,0 +1,16 @@
+//! The terms that every crate of Less shares: counts of faults and their causes, lines, decimal numbers, forms of names.
+#![tactic(auto)]
+
+mod decimals;
+mod forms;
+mod lines;
+
+pub use decimals::read_decimal;
+pub use forms::is_role;
+pub use lines::{count_lines, count_newlines};
+
+/// Want of memory: the one answer that every call which allocates may give at any time.
+pub type Memory = std::alloc::AllocError;
+
+#[cfg(test)]
+mod tests;

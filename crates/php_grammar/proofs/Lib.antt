@@ -1,0 +1,14 @@
+pub mod Closers
+pub mod Codes
+pub mod Table
+pub mod Checked
+pub mod Sorts
+pub mod Weights
+pub mod Facts
+pub mod Laws
+pub mod Closing
+pub mod Sound
+pub mod Exact
+pub mod Judge
+pub mod Nodes
+pub mod Single

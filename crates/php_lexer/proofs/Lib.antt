@@ -1,0 +1,7 @@
+pub mod BodyLemmas
+pub mod MarkLemmas
+pub mod NumberLemmas
+pub mod PlaceLaws
+pub mod ScanLemmas
+pub mod TokenLaws
+pub mod UntilLemmas

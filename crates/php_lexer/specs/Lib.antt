@@ -1,0 +1,12 @@
+pub mod Bytes
+pub mod Code
+pub mod Front
+pub mod Marks
+pub mod Numbers
+pub mod Pieces
+pub mod Places
+pub mod Scan
+pub mod Signs
+pub mod Texts
+pub mod Tokens
+pub mod Until

@@ -1,0 +1,11 @@
+pub mod Expressions
+pub mod ExpressionOf
+pub mod Statements
+pub mod StatementOf
+pub mod Height
+pub mod Line
+pub mod Place
+pub mod Renamed
+pub mod Functions
+pub mod Parts
+pub mod Steps

@@ -1,0 +1,11 @@
+pub mod Alone
+pub mod Histories
+pub mod Items
+pub mod Lanes
+pub mod Passes
+pub mod Plays
+pub mod Rule
+pub mod Takes
+pub mod Told
+pub mod Waits
+pub mod Words
