@@ -1,2 +1,3 @@
 pub mod Datas
 pub mod Digits
+pub mod Fitting

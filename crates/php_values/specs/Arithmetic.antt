@@ -1,5 +1,5 @@
 -- Arithmetic on values.
-use Rattle.std.specs.Prelude.{List, ◌++◌, ℕ, ◌^◌, ℤ, pos, negsuc, ◌+ℤ◌, ◌-ℤ◌, ◌*ℤ◌, Bool, nat_lt, nat_le, length, int_div, int_rem, if◌then◌else◌}
+use Rattle.std.specs.Prelude.{List, [], ◌∷◌, ◌++◌, ℕ, ◌+◌, ◌^◌, ℤ, pos, negsuc, ◌+ℤ◌, ◌-ℤ◌, ◌*ℤ◌, Bool, true, false, ◌&&◌, ◌==◌, nat_lt, nat_le, length, int_div, int_rem, if◌then◌else◌}
 use Rattle.std.specs.declared.option.Option.{Option}
 use Rattle.std.specs.declared.option.Option.TheVariants.{Some, None}
 use Rattle.std.specs.declared.result.Result.TheVariants.{Ok, Err}
@@ -42,6 +42,15 @@ operand (object n) = Err Kind
 abbrev pub with_operands : Data → Data → (ℤ → ℤ → Answer Data) → Answer Data
 with_operands a b go = and_then (operand a) (λ m. and_then (operand b) (λ n. go m n))
 
+abbrev pub sum : ℤ → ℤ → Answer Data
+sum m n = fitting (m +ℤ n)
+
+abbrev pub difference : ℤ → ℤ → Answer Data
+difference m n = fitting (m -ℤ n)
+
+abbrev pub product : ℤ → ℤ → Answer Data
+product m n = fitting (m *ℤ n)
+
 -- the exact quotient
 abbrev pub quotient : ℤ → ℤ → Answer Data
 quotient m n =
@@ -52,12 +61,12 @@ quotient m n =
 abbrev pub remainder : ℤ → ℤ → Answer Data
 remainder m n = if int_eq n (pos 0) then Err Zero else Ok (int (int_rem m n))
 
--- a text that is not too long
-abbrev pub sized_text : List ℕ → Answer Data
-sized_text t = if nat_le (length t) max_text then Ok (bytes t) else Err Size
+-- two texts joined, where they are not too long together
+abbrev pub sized_join : List ℕ → List ℕ → Answer Data
+sized_join s t = if nat_le (length s + length t) max_text then Ok (bytes (s ++ t)) else Err Size
 
 abbrev pub joined : Data → Data → Answer Data
-joined a b = and_then (text_of a) (λ s. and_then (text_of b) (λ t. sized_text (s ++ t)))
+joined a b = and_then (text_of a) (λ s. and_then (text_of b) (λ t. sized_join s t))
 
 -- a pair behind others
 abbrev pub put_last : Key → Data → Pairs → Pairs
@@ -87,12 +96,12 @@ union a (of_pairs qs next) = sized_array (with_missing a qs)
 
 abbrev pub sum_of : Data → Data → Answer Data
 sum_of (array a) (array b) = union a b
-sum_of a b = with_operands a b (λ m n. fitting (m +ℤ n))
+sum_of a b = with_operands a b sum
 
 abbrev pub arithmetic : ArithOp → Data → Data → Answer Data
 arithmetic Add a b = sum_of a b
-arithmetic Subtract a b = with_operands a b (λ m n. fitting (m -ℤ n))
-arithmetic Multiply a b = with_operands a b (λ m n. fitting (m *ℤ n))
+arithmetic Subtract a b = with_operands a b difference
+arithmetic Multiply a b = with_operands a b product
 arithmetic Divide a b = with_operands a b quotient
 arithmetic Remainder a b = with_operands a b remainder
 arithmetic Join a b = joined a b

@@ -1,8 +1,8 @@
 -- Comparisons: `==`, `<=>` and `===`.
-use Rattle.std.specs.Prelude.{List, [], ℕ, ℤ, Bool, true, false, not, ◌&&◌, ◌==◌, if◌then◌else◌}
+use Rattle.std.specs.Prelude.{List, [], ◌∷◌, length, ℕ, ℤ, Bool, true, false, not, ◌&&◌, ◌||◌, ◌==◌, if◌then◌else◌}
 use Rattle.std.specs.declared.option.Option.{Option}
 use Rattle.std.specs.declared.option.Option.TheVariants.{Some, None}
-use Rattle.std.specs.declared.result.Result.TheVariants.{Ok, Err}
+pub use Rattle.std.specs.declared.result.Result.TheVariants.{Ok, Err}
 use Rattle.std.specs.Ordering.{int_eq, int_cmp, nat_cmp, bool_cmp}
 use Rattle.std.specs.Cmp.Lexicographic.{slice_cmp}
 use Rattle.std.specs.declared.cmp.Ordering.{Ordering}
@@ -13,7 +13,7 @@ use Rattle.order_map.specs.Keys.{same_key}
 use Rattle.php_values.specs.declared.fault.ValueFault.TheVariants.{Kind}
 use Rattle.php_values.specs.Data.{Data, null, truth, int, bytes, array, object, ArrayData, of_pairs, array_pairs, count_of, Pairs, no_pairs, pair}
 use Rattle.php_values.specs.Answers.{Answer, and_then}
-use Rattle.php_values.specs.Convert.{leading_number, is_numeric, number_or_zero, truth_of}
+use Rattle.php_values.specs.Convert.{leading_number, is_numeric, number_or_zero, text_truth, truth_of}
 
 -- the value of a key, if it is there
 abbrev pub value_of : Key → Pairs → Option Data
@@ -29,7 +29,7 @@ abbrev pub same_truth : Bool → Bool → Bool
 same_truth true b = b
 same_truth false b = not b
 
--- ---- `==`
+-- ---- numbers and texts
 
 -- a number and a text: the text's leading number, or 0
 abbrev pub equals_number : ℤ → List ℕ → Answer Bool
@@ -43,31 +43,61 @@ equal_numbers s t = and_then (number_or_zero (leading_number s)) (λ n. equals_n
 abbrev pub equal_texts : List ℕ → List ℕ → Answer Bool
 equal_texts s t = if bytes_eq s t then Ok true else (if is_numeric s && is_numeric t then equal_numbers s t else Ok false)
 
--- two values that are not both arrays
+-- ---- `==` of two values that are not both arrays, by the left one's kind
+
+abbrev pub null_equals : Data → Answer Bool
+null_equals null = Ok true
+null_equals (truth b) = Ok (not b)
+null_equals (int n) = Ok (not (truth_of (int n)))
+null_equals (bytes t) = Ok (length t == 0)
+null_equals (array a) = Ok (not (truth_of (array a)))
+null_equals (object n) = Ok false
+
+abbrev pub int_equals : ℤ → Data → Answer Bool
+int_equals m null = Ok (not (truth_of (int m)))
+int_equals m (truth b) = Ok (same_truth b (truth_of (int m)))
+int_equals m (int n) = Ok (int_eq m n)
+int_equals m (bytes t) = equals_number m t
+int_equals m (array a) = Ok false
+int_equals m (object n) = Err Kind
+
+abbrev pub text_equals : List ℕ → Data → Answer Bool
+text_equals s null = Ok (length s == 0)
+text_equals s (truth b) = Ok (same_truth b (text_truth s))
+text_equals s (int n) = equals_number n s
+text_equals s (bytes t) = equal_texts s t
+text_equals s (array a) = Ok false
+text_equals s (object n) = Err Kind
+
+-- an array, of which only its truth counts
+abbrev pub array_equals : Bool → Data → Answer Bool
+array_equals full null = Ok (not full)
+array_equals full (truth b) = Ok (same_truth b full)
+array_equals full (int n) = Ok false
+array_equals full (bytes t) = Ok false
+array_equals full (array a) = Ok false
+array_equals full (object n) = Ok false
+
+abbrev pub same_object : ℕ → ℕ → Answer Bool
+same_object m n = if m == n then Ok true else Err Kind
+
+abbrev pub object_equals : ℕ → Data → Answer Bool
+object_equals m null = Ok false
+object_equals m (truth b) = Ok b
+object_equals m (int n) = Err Kind
+object_equals m (bytes t) = Err Kind
+object_equals m (array a) = Ok false
+object_equals m (object n) = same_object m n
+
 abbrev pub equal_flat : Data → Data → Answer Bool
-equal_flat null (bytes t) = Ok (bytes_eq t [])
-equal_flat null d = Ok (same_truth false (truth_of d))
+equal_flat null d = null_equals d
 equal_flat (truth b) d = Ok (same_truth b (truth_of d))
-equal_flat (int m) null = Ok (same_truth (truth_of (int m)) false)
-equal_flat (int m) (truth b) = Ok (same_truth (truth_of (int m)) b)
-equal_flat (int m) (int n) = Ok (int_eq m n)
-equal_flat (int m) (bytes t) = equals_number m t
-equal_flat (int m) (array a) = Ok false
-equal_flat (int m) (object n) = Err Kind
-equal_flat (bytes s) null = Ok (bytes_eq s [])
-equal_flat (bytes s) (truth b) = Ok (same_truth (truth_of (bytes s)) b)
-equal_flat (bytes s) (int n) = equals_number n s
-equal_flat (bytes s) (bytes t) = equal_texts s t
-equal_flat (bytes s) (array a) = Ok false
-equal_flat (bytes s) (object n) = Err Kind
-equal_flat (array a) null = Ok (same_truth (truth_of (array a)) false)
-equal_flat (array a) (truth b) = Ok (same_truth (truth_of (array a)) b)
-equal_flat (array a) d = Ok false
-equal_flat (object m) null = Ok false
-equal_flat (object m) (truth b) = Ok b
-equal_flat (object m) (array a) = Ok false
-equal_flat (object m) (object n) = if m == n then Ok true else Err Kind
-equal_flat (object m) d = Err Kind
+equal_flat (int m) d = int_equals m d
+equal_flat (bytes s) d = text_equals s d
+equal_flat (array a) d = array_equals (truth_of (array a)) d
+equal_flat (object m) d = object_equals m d
+
+-- ---- `==`
 
 -- the first answer, and the next one where it is yes
 abbrev pub all_equal : Answer Bool → Answer Bool → Answer Bool
@@ -98,7 +128,7 @@ abbrev mutual
   loose_pairs no_pairs qs = Ok true
   loose_pairs (pair k d ps) qs = all_equal (in_right (Ok false) (loose_equal d) (value_of k qs)) (loose_pairs ps qs)
 
--- ---- `<=>`
+-- ---- the order of numbers and texts
 
 abbrev pub order_of_number : ℤ → List ℕ → Answer Ordering
 order_of_number n t = and_then (number_or_zero (leading_number t)) (λ m. Ok (int_cmp n m))
@@ -113,27 +143,50 @@ order_of_numbers s t = and_then (number_or_zero (leading_number s)) (λ n. order
 abbrev pub order_of_texts : List ℕ → List ℕ → Answer Ordering
 order_of_texts s t = if bytes_eq s t then Ok Equal else (if is_numeric s && is_numeric t then order_of_numbers s t else Ok (slice_cmp nat_cmp s t))
 
--- two values that are not both arrays: false stands before true
+-- ---- `<=>` of two values that are not both arrays, by the left one's kind; false stands before true
+
+abbrev pub null_order : Data → Answer Ordering
+null_order (bytes t) = Ok (slice_cmp nat_cmp [] t)
+null_order null = Ok Equal
+null_order (truth b) = Ok (bool_cmp false b)
+null_order (int n) = Ok (bool_cmp false (truth_of (int n)))
+null_order (array a) = Ok (bool_cmp false (truth_of (array a)))
+null_order (object n) = Ok Less
+
+abbrev pub int_order : ℤ → Data → Answer Ordering
+int_order m null = Ok (bool_cmp (truth_of (int m)) false)
+int_order m (truth b) = Ok (bool_cmp (truth_of (int m)) b)
+int_order m (int n) = Ok (int_cmp m n)
+int_order m (bytes t) = order_of_number m t
+int_order m (array a) = Err Kind
+int_order m (object n) = Err Kind
+
+abbrev pub text_order : List ℕ → Data → Answer Ordering
+text_order s null = Ok (slice_cmp nat_cmp s [])
+text_order s (truth b) = Ok (bool_cmp (text_truth s) b)
+text_order s (int n) = order_to_number s n
+text_order s (bytes t) = order_of_texts s t
+text_order s (array a) = Err Kind
+text_order s (object n) = Err Kind
+
+-- an array, of which only its truth counts, and an object, which counts as true
+abbrev pub truth_order : Bool → Data → Answer Ordering
+truth_order full null = Ok (bool_cmp full false)
+truth_order full (truth b) = Ok (bool_cmp full b)
+truth_order full (int n) = Err Kind
+truth_order full (bytes t) = Err Kind
+truth_order full (array a) = Err Kind
+truth_order full (object n) = Err Kind
+
 abbrev pub order_flat : Data → Data → Answer Ordering
-order_flat null (bytes t) = Ok (slice_cmp nat_cmp [] t)
-order_flat null d = Ok (bool_cmp false (truth_of d))
+order_flat null d = null_order d
 order_flat (truth b) d = Ok (bool_cmp b (truth_of d))
-order_flat (int m) null = Ok (bool_cmp (truth_of (int m)) false)
-order_flat (int m) (truth b) = Ok (bool_cmp (truth_of (int m)) b)
-order_flat (int m) (int n) = Ok (int_cmp m n)
-order_flat (int m) (bytes t) = order_of_number m t
-order_flat (int m) d = Err Kind
-order_flat (bytes s) null = Ok (slice_cmp nat_cmp s [])
-order_flat (bytes s) (truth b) = Ok (bool_cmp (truth_of (bytes s)) b)
-order_flat (bytes s) (int n) = order_to_number s n
-order_flat (bytes s) (bytes t) = order_of_texts s t
-order_flat (bytes s) d = Err Kind
-order_flat (array a) null = Ok (bool_cmp (truth_of (array a)) false)
-order_flat (array a) (truth b) = Ok (bool_cmp (truth_of (array a)) b)
-order_flat (array a) d = Err Kind
-order_flat (object m) null = Ok Greater
-order_flat (object m) (truth b) = Ok (bool_cmp true b)
-order_flat (object m) d = Err Kind
+order_flat (int m) d = int_order m d
+order_flat (bytes s) d = text_order s d
+order_flat (array a) d = truth_order (truth_of (array a)) d
+order_flat (object m) d = truth_order true d
+
+-- ---- `<=>`
 
 -- the first answer, and the next one where it is equal
 abbrev pub first_order : Answer Ordering → Answer Ordering → Answer Ordering

@@ -37,7 +37,7 @@ fn text_truth(text: &ByteText) -> bool
     }
 }
 
-fn number_or_zero(number: Number) -> Result<i64, ValueFault>
+pub(crate) fn number_or_zero(number: Number) -> Result<i64, ValueFault>
     ensures { Gives (spec.number_or_zero number) result }
 {
     match number {
@@ -47,7 +47,7 @@ fn number_or_zero(number: Number) -> Result<i64, ValueFault>
     }
 }
 
-fn zero_or_one(b: bool) -> Result<i64, ValueFault>
+pub(crate) fn zero_or_one(b: bool) -> Result<i64, ValueFault>
     ensures { Gives (spec.Ok (spec.zero_or_one b)) result }
 {
     if b { Ok(1) } else { Ok(0) }

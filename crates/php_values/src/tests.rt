@@ -1,6 +1,6 @@
 use crate::{
-    ArrayValue, Number, Value, ValueFault, copied, copy_value, is_numeric, key_of, leading_number,
-    normal_number, to_int, to_text, truth,
+    ArithOp, ArrayValue, Number, Value, ValueFault, arith, copied, copy_value, is_numeric, key_of,
+    leading_number, normal_number, to_int, to_text, truth,
 };
 use order_map::{ByteText, Key, OrderMap};
 use std::alloc::Global;
@@ -187,5 +187,70 @@ fn copies_are_their_own(rt: HostRuntime) -> Result<(), Fail> {
         }
         _ => assert!(rt; false),
     }
+    Ok(())
+}
+
+fn number_of(alloc: Global, op: ArithOp, a: i64, b: i64) -> Result<i64, ValueFault> {
+    match arith(alloc, op, &Value::Int(a), &Value::Int(b))? {
+        Value::Int(n) => Ok(n),
+        _ => Err(ValueFault::Kind),
+    }
+}
+
+#[test]
+fn whole_numbers_are_exact(rt: HostRuntime) {
+    let alloc = rt.alloc();
+    let exact = [
+        (ArithOp::Add, 2, 3, 5),
+        (ArithOp::Subtract, 2, 3, -1),
+        (ArithOp::Multiply, -4, 3, -12),
+        (ArithOp::Divide, 6, -3, -2),
+        (ArithOp::Divide, 7, -1, -7),
+        (ArithOp::Remainder, 7, -3, 1),
+        (ArithOp::Remainder, -7, 3, -1),
+        (ArithOp::Remainder, i64::MIN, -1, 0),
+    ];
+    for (op, a, b, n) in exact {
+        assert!(rt; number_of(alloc, op, a, b) == Ok(n));
+    }
+    let floats = [
+        (ArithOp::Add, i64::MAX, 1),
+        (ArithOp::Subtract, i64::MIN, 1),
+        (ArithOp::Multiply, i64::MAX, 2),
+        (ArithOp::Divide, 7, 2),
+        (ArithOp::Divide, 7, 0),
+        (ArithOp::Divide, i64::MIN, -1),
+    ];
+    for (op, a, b) in floats {
+        assert!(rt; number_of(alloc, op, a, b) == Err(ValueFault::Float));
+    }
+    assert!(rt; number_of(alloc, ArithOp::Remainder, 7, 0) == Err(ValueFault::Zero));
+}
+
+fn is_text(value: &Value, bytes: &[u8]) -> bool {
+    match value {
+        Value::Bytes(t) => t.as_slice() == bytes,
+        _ => false,
+    }
+}
+
+fn count_of(value: &Value) -> usize {
+    match value {
+        Value::List(array) => array.map.as_ref().len(),
+        _ => 0,
+    }
+}
+
+#[test]
+fn sums_of_texts_and_arrays(rt: HostRuntime) -> Result<(), Fail> {
+    let alloc = rt.alloc();
+    let joined = arith(alloc, ArithOp::Join, &text(alloc, b"a")?, &Value::Int(1))?;
+    assert!(rt; is_text(&joined, b"a1"));
+    let sum = arith(alloc, ArithOp::Add, &text(alloc, b"a1")?, &Value::Int(2))?;
+    assert!(rt; matches!(sum, Value::Int(2)));
+    let both = arith(alloc, ArithOp::Add, &list(alloc, 2)?, &list(alloc, 3)?)?;
+    assert!(rt; count_of(&both) == 3);
+    let mixed = arith(alloc, ArithOp::Add, &list(alloc, 2)?, &Value::Int(1));
+    assert!(rt; mixed.is_err());
     Ok(())
 }
