@@ -42,7 +42,7 @@ module _ {V : Type 0} where
   may_give k told told' r t is inside did = go told inside (subst (λ (z : answers.Take V). TellsTake k told z told') is did)
     where
       go : (told : Told V) → k < slots told → TellsTake k told (Taken t) told' → MayGive told' t
-      go (lane n items held) inside did = let a = did.0.1 in subst (λ (z : Told V). MayGive z t) (sym did.1) ((let s = a.slot in omega arith), inl refl)
+      go (lane store items held) inside did = let a = did.0.1 in subst (λ (z : Told V). MayGive z t) (sym did.1) ((let s = a.slot in omega arith), inl refl)
       go (alone words values) inside did = let a = did.0 in let w : ℕ = get_or words k 0 in let now = did.1.2 in let on = a.slot in
           let at : get_or (set words k (bit_or w 1)) t.slot 0 ≡ bit_or w 1 = ap (λ (z : ℕ). get_or (set words k (bit_or w 1)) z 0) on ∙ get_or-set_same words k (bit_or w 1) 0 inside in
           let same = marked_generation w in
@@ -84,13 +84,13 @@ module _ {V : Type 0} where
 
   -- after another take
   pub may_give_after_take : (k : ℕ) (told told' : Told V) (r : answers.Take V) (t : out.Taken V) → k < slots told → TellsTake k told r told' → MayGive told t → MayGive told' t
-  may_give_after_take k (lane n items held) told' r t inside did may = subst (λ (z : Told V). MayGive z t) (sym did.1) (may.0, stays_held r (hold_of t) held may.1)
+  may_give_after_take k (lane store items held) told' r t inside did may = subst (λ (z : Told V). MayGive z t) (sym did.1) (may.0, stays_held r (hold_of t) held may.1)
   may_give_after_take k (alone words values) told' r t inside did may = subst (λ (z : Told V). MayGive z t) (sym did.1.2)
       (still_out words (set words k (bit_or (get_or words k 0) 1)) values did.1.0 t may (length-set words k (bit_or (get_or words k 0) 1)) (marked_again words k t.slot inside may.bit) (stays_empty k t.slot r values did.1.0 did.1.1 may.empty))
 
   -- after another slot was given back
   pub may_give_after_gift : (told told' : Told V) (given t : out.Taken V) → t.slot ≢ given.slot → TellsGift told given told' → MayGive told t → MayGive told' t
-  may_give_after_gift (lane n items held) told' given t ne did may = subst (λ (z : Told V). MayGive z t) (sym did) (may.0, still_in (hold_of t) given.slot held ne may.1)
+  may_give_after_gift (lane store items held) told' given t ne did may = subst (λ (z : Told V). MayGive z t) (sym did) (may.0, still_in (hold_of t) given.slot held ne may.1)
   may_give_after_gift (alone words values) told' given t ne did may = let x : ℕ = get_or words given.slot 0 + 1 in let at = get_or-set_other words given.slot t.slot x 0 ne in
       subst (λ (z : Told V). MayGive z t) (sym did) (still_out words (set words given.slot x) values (set values given.slot (Some given.value)) t may (length-set words given.slot x)
       (ap (λ (z : ℕ). taken_of z) at, ap (λ (z : ℕ). generation_of z) at) (set_else values given.slot t.slot (Some given.value) ne ∙ may.empty))
@@ -110,17 +110,17 @@ module _ {V : Type 0} where
   -- ---- the count of slots stays
 
   pub slots_after_take : (k : ℕ) (told told' : Told V) (r : answers.Take V) → TellsTake k told r told' → slots told' ≡ slots told
-  slots_after_take k (lane n items held) told' r did = ap (λ (z : Told V). slots z) did.1
+  slots_after_take k (lane store items held) told' r did = ap (λ (z : Told V). slots z) did.1
   slots_after_take k (alone words values) told' r did = ap (λ (z : Told V). slots z) did.1.2 ∙ length-set words k (bit_or (get_or words k 0) 1)
 
   pub slots_after_gift : (told told' : Told V) (t : out.Taken V) → TellsGift told t told' → slots told' ≡ slots told
-  slots_after_gift (lane n items held) told' t did = ap (λ (z : Told V). slots z) did
+  slots_after_gift (lane store items held) told' t did = ap (λ (z : Told V). slots z) did
   slots_after_gift (alone words values) told' t did = ap (λ (z : Told V). slots z) did ∙ length-set words t.slot (get_or words t.slot 0 + 1)
 
   -- ---- only the value was changed
 
   pub may_give_changed : (told : Told V) (t : out.Taken V) (v : V) → MayGive told t → MayGive told (record t { value = v })
-  may_give_changed (lane n items held) t v may = may
+  may_give_changed (lane store items held) t v may = may
   may_give_changed (alone words values) t v may = record { inside = may.inside; bit = may.bit; number = may.number; room = may.room; empty = may.empty }
 
 -- a pin changes no length

@@ -8,12 +8,14 @@ use Rattle.turn_store.specs.declared.view.Hold.{Hold}
 use Rattle.turn_store.specs.declared.take.Taken as out
 use Rattle.turn_store.specs.declared.take.Take as answers
 use Rattle.turn_store.specs.declared.take.Take.TheVariants.{Taken, Busy, Spent}
+use Rattle.turn_store.specs.declared.store.SharedTurns.{SharedTurns}
+use Rattle.turn_store.specs.Passes.{slot_count}
 use Rattle.turn_store.specs.Items.{InHeld, without, entry_of}
 use Rattle.turn_store.specs.Words.{taken_of, generation_of, change_of, pin_of}
 
--- a lane tells its count of slots, its items and what it holds; a store that is used alone tells its words and values
+-- a lane tells its store, its items and what it holds; a store that is used alone tells its words and values
 pub data Told (V : Type 0) : Type 0 where
-  lane : ℕ → List (Item V) → List (Hold V) → Told V
+  lane : SharedTurns V → List (Item V) → List (Hold V) → Told V
   alone : List ℕ → List (Option V) → Told V
 
 -- the word with its bit 0 set
@@ -22,7 +24,7 @@ marked w = bit_or w 1
 
 module _ {V : Type 0} where
   abbrev pub slots : Told V → ℕ
-  slots (lane n items held) = n
+  slots (lane store items held) = slot_count store
   slots (alone words values) = length words
 
   -- the hold that was handed out
@@ -78,15 +80,15 @@ module _ {V : Type 0} where
   -- ---- both
 
   abbrev pub TellsTake : ℕ → Told V → answers.Take V → Told V → Type 0
-  TellsTake k (lane n items held) r after = ((word : ℕ) × Answers k word r) × (after ≡ lane n (items_after k r items) (held_after r held))
+  TellsTake k (lane store items held) r after = ((word : ℕ) × Answers k word r) × (after ≡ lane store (items_after k r items) (held_after r held))
   TellsTake k (alone words values) r after = Answers k (slice_index words k) r
       × ((values' : List (Option V)) × HandsOut k r values values' × (after ≡ alone (slice_set words k (marked (slice_index words k))) values'))
 
   -- the turnstile handed it out, and it has not come back
   abbrev pub MayGive : Told V → out.Taken V → Type 0
-  MayGive (lane n items held) t = (t.slot < n) × InHeld (hold_of t) held
+  MayGive (lane store items held) t = (t.slot < slot_count store) × InHeld (hold_of t) held
   MayGive (alone words values) t = IsOut words values t
 
   abbrev pub TellsGift : Told V → out.Taken V → Told V → Type 0
-  TellsGift (lane n items held) t after = after ≡ lane n (items ++ Completed (entry_of (hold_of t) t.value) ∷ []) (without t.slot held)
+  TellsGift (lane store items held) t after = after ≡ lane store (items ++ Completed (entry_of (hold_of t) t.value) ∷ []) (without t.slot held)
   TellsGift (alone words values) t after = after ≡ alone (slice_set words t.slot (slice_index words t.slot + 1)) (slice_set values t.slot (Some t.value))
