@@ -136,6 +136,33 @@ fn faults_stand_at_their_first_byte(rt: HostRuntime) -> Result<(), Fail> {
 }
 
 #[test]
+fn of_several_faults_the_first_counts(rt: HostRuntime) -> Result<(), Fail> {
+    let alloc = rt.alloc();
+    let rows: [(&[u8], &str); 16] = [
+        (b"<?php 08.1", "Form(Float) at 6"),
+        (b"<?php 08e1", "Form(Float) at 6"),
+        (b"<?php 01.5", "Form(Float) at 6"),
+        (b"<?php 09223372036854775808", "Form(Octal) at 6"),
+        (b"<?php \"a\".5", "Form(Float) at 9"),
+        (b"<?php a1.5", "Form(Float) at 8"),
+        (b"<?php (real)1", "Form(Cast) at 6"),
+        (b"<?php ( object )1", "Form(Cast) at 6"),
+        (b"<?php (unset)1", "Form(Cast) at 6"),
+        (b"<?php (Binary)1", "Form(Cast) at 6"),
+        (b"<?php (\nint)", "ParenOpen;WORD;ParenClose;END;"),
+        (b"<?php \"{$a 'x", "OpenString at 11"),
+        (b"<?php \"{$a /* x", "OpenComment at 11"),
+        (b"<?php \"{$a // }\"", "OpenString at 6"),
+        (b"<?php \"{$a {", "OpenString at 6"),
+        (b"<?php \"{$a \"{$b 'c", "OpenString at 16"),
+    ];
+    for (text, wanted) in rows {
+        row(&rt, alloc, text, wanted)?;
+    }
+    Ok(())
+}
+
+#[test]
 fn each_form_is_a_token(rt: HostRuntime) -> Result<(), Fail> {
     let alloc = rt.alloc();
     let rows: [(&[u8], &str); 30] = [
