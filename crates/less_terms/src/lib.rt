@@ -4,10 +4,12 @@
 mod decimals;
 mod forms;
 mod lines;
+mod paths;
 
 pub use decimals::read_decimal;
 pub use forms::is_role;
 pub use lines::{count_lines, count_newlines};
+pub use paths::{is_function_name, is_path};
 
 /// Want of memory: the one answer that every call which allocates may give at any time.
 pub type Memory = std::alloc::AllocError;

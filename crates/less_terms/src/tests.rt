@@ -55,3 +55,60 @@ fn roles_are_short_lower_case_words(rt: HostRuntime) -> Result<(), Fail> {
     }
     Ok(())
 }
+
+#[test]
+fn paths_have_segments_of_printable_bytes(rt: HostRuntime) -> Result<(), Fail> {
+    let rows: [(&[u8], bool); 18] = [
+        (b"index.php", true),
+        (b"lib/db.php", true),
+        (b"a b?>,~", true),
+        (b"...", true),
+        (b"", false),
+        (b"/a", false),
+        (b"a/", false),
+        (b"a//b", false),
+        (b".", false),
+        (b"a/../b", false),
+        (b"./a", false),
+        (b"a'b", false),
+        (b"a\"b", false),
+        (b"a\\b", false),
+        (b"a#b", false),
+        (b"a\tb", false),
+        (b"a\x7f", false),
+        (b"\xc3\xa4", false),
+    ];
+    for (path, right) in &rows {
+        assert_eq!(rt; is_path(path), *right);
+    }
+    let long = [b'a'; 201];
+    assert_eq!(rt; is_path(&long[..200]), true);
+    assert_eq!(rt; is_path(&long), false);
+    Ok(())
+}
+
+#[test]
+fn function_names_are_one_word_or_two(rt: HostRuntime) -> Result<(), Fail> {
+    let rows: [(&[u8], bool); 13] = [
+        (b"tasks_of", true),
+        (b"_9", true),
+        (b"c::__construct", true),
+        (b"", false),
+        (b"9a", false),
+        (b"Old", false),
+        (b"a\\b", false),
+        (b"a:b", false),
+        (b"a::", false),
+        (b"::a", false),
+        (b"a::b::c", false),
+        (b"a:::b", false),
+        (b"-", false),
+    ];
+    for (name, right) in &rows {
+        assert_eq!(rt; is_function_name(name), *right);
+    }
+    let long = [b'a'; 101];
+    assert_eq!(rt; is_function_name(&long[..100]), true);
+    assert_eq!(rt; is_function_name(&long), false);
+    Ok(())
+}

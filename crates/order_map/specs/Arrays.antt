@@ -1,14 +1,35 @@
 -- Arrays: pairs of a key and a value in their order, and the next key.
-use Rattle.std.specs.Prelude.{List, [], ◌∷◌, ℕ, ◌≤◌, ◌≡◌, map, length, nat_lt, Option, Some, None, IsTrue, if◌then◌else◌}
-use Rattle.std.specs.List.{zip}
+use Rattle.std.specs.Prelude.{List, [], ◌∷◌, ℕ, ◌+◌, ◌≤◌, ◌≡◌, map, slice_get, Option, Some, None, option_map, IsTrue, if◌then◌else◌}
 use Rattle.order_map.specs.declared.key.Key.{Key}
+use Rattle.order_map.specs.declared.entry.Entry.{Entry}
 use Rattle.order_map.specs.declared.place.Place.{Place}
 use Rattle.order_map.specs.Keys.{same_key, all_distinct, all_below, spent}
 use Rattle.order_map.specs.MapView.{MapView}
 
+-- the pairs of entries slot by slot
+abbrev pub with_pair : {V : Type 0} → Key → Option V → List (Key × V) → List (Key × V)
+with_pair key None ps = ps
+with_pair key (Some v) ps = (key, v) ∷ ps
+
+abbrev pub pairs_in : {V : Type 0} → List (Entry V) → List (Key × V)
+pairs_in [] = []
+pairs_in (e ∷ es) = with_pair e.key e.value (pairs_in es)
+
+-- the slots that hold a pair, counted from i
+abbrev pub with_slot : {V : Type 0} → ℕ → Option V → List ℕ → List ℕ
+with_slot i None slots = slots
+with_slot i (Some v) slots = i ∷ slots
+
+abbrev pub full_slots : {V : Type 0} → ℕ → List (Entry V) → List ℕ
+full_slots i [] = []
+full_slots i (e ∷ es) = with_slot i e.value (full_slots (i + 1) es)
+
+abbrev pub place_at : ℕ → Place
+place_at i = record { at = i }
+
 -- the pairs of an array in their order
 unfoldable pub pairs_of : {V : Type 0} → MapView V → List (Key × V)
-pairs_of m = zip m.keys m.values
+pairs_of m = pairs_in m.entries
 
 -- its next key, a number, or `spent`
 unfoldable pub next_of : {V : Type 0} → MapView V → ℕ
@@ -16,7 +37,7 @@ next_of m = m.next
 
 -- the place of the i-th pair, counted from 0, and none behind the last one
 unfoldable pub place_of : {V : Type 0} → MapView V → ℕ → Option Place
-place_of m i = if nat_lt i (length (pairs_of m)) then Some (record { at = i }) else None
+place_of m i = option_map place_at (slice_get (full_slots 0 m.entries) i)
 
 -- a place of one of the array's pairs
 pub record IsPlace {V : Type 0} (m : MapView V) (place : Place) : Type 0 where

@@ -1,5 +1,8 @@
 pub mod Keys
+pub mod Hashes
 pub mod MapView
+pub mod Chains
+pub mod Copies
 pub mod Arrays
-pub mod Finding
+pub mod Sound
 pub mod formers

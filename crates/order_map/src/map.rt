@@ -1,21 +1,27 @@
 // Arrays in the order in which their keys came.
 #![tactic(auto, unfolding(crate::specs::Arrays::pairs_of, crate::specs::Arrays::next_of, crate::specs::Arrays::place_of))]
 
-ghost use Rattle.std.specs.Prelude.{◌≡◌, ◌↔◌, ◌<◌, ◌≤◌, ◌+◌, ◌-◌, [], ◌∷◌, ◌++◌, ℕ, max, pos, length, slice_get, IsTrue, Some, None, Err, is_some, if◌then◌else◌, IfOk, IfSome, OnOk, OnErr, MatchOption};
-ghost use Rattle.std.specs.Option.{option_copied, option_map};
+ghost use Rattle.std.specs.Prelude.{◌≡◌, ◌↔◌, ◌<◌, ◌≤◌, ◌+◌, ◌-◌, [], ◌∷◌, ◌++◌, ℕ, true, false, max, pos, length, slice_get, take, option_to_list, IsTrue, IsSome, Some, None, Err, is_some, if◌then◌else◌, IfOk, OnOk, OnErr, MatchOption};
+ghost use Rattle.std.specs.Option.{option_copied};
 ghost use Rattle.order_map.specs.Keys.{all_below, next_after, spent};
-ghost use Rattle.order_map.specs.Arrays.{pairs_of, next_of, place_of, IsPlace, IsArray, IsSameArray, IsCopy, keys_of, look, put, without};
-ghost use Rattle.order_map.specs.Finding.{place_from};
+ghost use Rattle.order_map.specs.Arrays.{pairs_of, next_of, place_of, IsPlace, IsArray, IsSameArray, IsCopy, keys_of, pairs_in, look, put, without};
+ghost use Rattle.order_map.specs.Chains.{holds};
 ghost use Rattle.order_map.specs.declared.key.Key.TheVariants.{Int};
 
+use crate::entry::Entry;
+use crate::index::Index;
 use crate::key::Key;
 use crate::place::Place;
+use crate::slots::{full_from, keep_full, pass_over};
+use crate::values::Values;
 use std::alloc::{AllocError, Global};
 use std::marker::Model;
-use std::mem;
 
 /// The next key of an array that has no free number key left.
 const SPENT: u64 = 1 << 63;
+
+// Slots that hold nothing stay where there are no more than this.
+const FEW: usize = 8;
 
 /// Why nothing was appended. `KeysSpent` comes exactly where the next key is spent; `Memory` may come at any time.
 #[derive(Clone, Copy, Debug, PartialEq, Eq)]
@@ -28,32 +34,27 @@ pub enum AppendFault {
 /// Contracts see the pairs as a list, by `pairs_of`, and the next key as a number, by `next_of`.
 #[derive(Drop)]
 pub struct OrderMap<V> {
-    keys: Vec<Key>,
-    values: Vec<V>,
+    entries: Vec<Entry<V>>,
+    index: Index,
+    // how many entries have a value
+    count: usize,
+    // so many entries at the front have none
+    passed: usize,
     next: u64,
 }
 
 impl<V> Model for OrderMap<V> {
-    ghost use Rattle.std.specs.Prelude.{length};
-    ghost use Rattle.order_map.specs.MapView.{MapView, IsSound, map_view};
+    ghost use Rattle.std.specs.Prelude.{take};
+    ghost use Rattle.order_map.specs.MapView.{MapView, map_view};
+    ghost use Rattle.order_map.specs.Arrays.{keys_of, pairs_in};
+    ghost use Rattle.order_map.specs.Chains.{slots_of};
+    ghost use Rattle.order_map.specs.Sound.{IsSound};
 
     ghost Value = { MapView V };
 
-    ghost view = { λ m. map_view m.keys.items m.values.items m.next };
+    ghost view = { λ m. map_view m.entries.items m.next };
 
-    ghost invariant = { λ m. IsSound m.keys.items (length m.values.items) m.next };
-}
-
-// Where a key stands.
-fn find(keys: &[Key], key: &Key) -> Option<usize>
-    ensures { result ≡ place_from 0 key.now keys.now }
-{
-    for (i, k) in keys.iter().enumerate() {
-        if k.is_same(key) {
-            return Some(i);
-        }
-    }
-    None
+    ghost invariant = { λ m. IsSound (slots_of m.entries.items) (keys_of (pairs_in m.entries.items)) (keys_of (pairs_in (take m.passed m.entries.items))) m.count m.next m.index.heads.items m.index.links.items };
 }
 
 impl<V> OrderMap<V> {
@@ -63,8 +64,10 @@ impl<V> OrderMap<V> {
         ensures next { next_of result ≡ 0 }
     {
         OrderMap {
-            keys: Vec::new(alloc),
-            values: Vec::new(alloc),
+            entries: Vec::new(alloc),
+            index: Index::new(alloc),
+            count: 0,
+            passed: 0,
             next: 0,
         }
     }
@@ -74,15 +77,22 @@ impl<V> OrderMap<V> {
         ensures count { result ≡ length (pairs_of self.now) }
         ensures array { IsArray (pairs_of self.now) (next_of self.now) }
     {
-        self.values.len()
+        self.count
+    }
+
+    // The slot that holds a key's pair.
+    fn find(&self, key: &Key) -> Option<usize>
+        ensures { MatchOption result ((i : ℕ) → holds key.now (slice_get self.now.entries i) ≡ false) (λ i. holds key.now (slice_get self.now.entries i) ≡ true) }
+    {
+        self.index.find(self.entries.as_slice(), key)
     }
 
     /// The value of a key.
     pub fn get(&self, key: &Key) -> Option<&V>
         ensures { option_copied result ≡ look key.now (pairs_of self.now) }
     {
-        match find(self.keys.as_slice(), key) {
-            Some(i) => Some(&self.values[i]),
+        match self.find(key) {
+            Some(slot) => self.entries[slot].value.as_ref(),
             None => None,
         }
     }
@@ -100,14 +110,33 @@ impl<V> OrderMap<V> {
 }
 
 impl<V> OrderMap<V> {
+    /// Takes the array apart. Its keys are dropped, and its values can be let go one by one.
+    pub fn into_values(self) -> Values<V> {
+        let OrderMap {
+            entries,
+            index,
+            count: _,
+            passed: _,
+            next: _,
+        } = self;
+        drop(index);
+        Values::new(entries)
+    }
+
+    /// The allocator that the array was made with.
+    pub fn allocator(&self) -> Global {
+        *self.entries.allocator()
+    }
+}
+
+impl<V> OrderMap<V> {
     /// The place of the first pair.
     pub fn first(&self) -> Option<Place>
         ensures { result ≡ place_of self.now 0 }
     {
-        if self.values.as_slice().is_empty() {
-            None
-        } else {
-            Some(Place::new(0))
+        match full_from(self.entries.as_slice(), self.passed) {
+            Some(slot) => Some(Place::new(slot)),
+            None => None,
         }
     }
 
@@ -116,12 +145,9 @@ impl<V> OrderMap<V> {
         requires { IsPlace self.now place }
         ensures { (i : ℕ) → place_of self.now i ≡ Some place → result ≡ place_of self.now (i + 1) }
     {
-        let count = self.values.as_slice().len();
-        let next = place.at() + 1;
-        if next < count {
-            Some(Place::new(next))
-        } else {
-            None
+        match full_from(self.entries.as_slice(), place.at() + 1) {
+            Some(slot) => Some(Place::new(slot)),
+            None => None,
         }
     }
 
@@ -130,8 +156,7 @@ impl<V> OrderMap<V> {
         requires { IsPlace self.now place }
         ensures { (i : ℕ) → place_of self.now i ≡ Some place → Some (result.0.now, result.1.now) ≡ slice_get (pairs_of self.now) i }
     {
-        let at = place.at();
-        (&self.keys[at], &self.values[at])
+        self.entries[place.at()].pair()
     }
 
     /// Lowers the next key by 1.
@@ -155,6 +180,39 @@ impl<V> OrderMap<V> {
             self.next = next;
         }
     }
+
+    // Puts another value in the place of a key's, which is given back.
+    fn exchange(&mut self, key: &Key, slot: usize, value: V) -> Option<V>
+        requires { holds key.now (slice_get self.old.entries slot) ≡ true }
+        ensures value { result ≡ look key.now (pairs_of self.old) }
+        ensures found { IsSome result }
+        ensures stays { next_after key.now (next_of self.old) ≡ next_of self.old }
+        ensures pairs { pairs_of self.new ≡ put key.now value (pairs_of self.old) }
+        ensures next { next_of self.new ≡ next_of self.old }
+    {
+        self.entries[slot].exchange(Some(value))
+    }
+
+    // Takes a key's value out of its slot.
+    fn cut(&mut self, key: &Key, slot: usize) -> Option<V>
+        requires { holds key.now (slice_get self.old.entries slot) ≡ true }
+        ensures value { result ≡ look key.now (pairs_of self.old) }
+        ensures pairs { pairs_of self.new ≡ without key.now (pairs_of self.old) }
+        ensures next { next_of self.new ≡ next_of self.old }
+    {
+        let value = self.entries[slot].exchange(None);
+        self.count -= 1;
+        value
+    }
+
+    // Passes over the slots at the front that hold nothing, once they do.
+    fn advance(&mut self, slot: usize)
+        ensures { IsSameArray self.old self.new }
+    {
+        if slot == self.passed {
+            self.passed = pass_over(self.entries.as_slice(), slot);
+        }
+    }
 }
 
 // The next key after a key was set.
@@ -175,18 +233,46 @@ fn raised(key: &Key, next: u64) -> u64
 }
 
 impl<V: Drop> OrderMap<V> {
+    // Closes the list once most slots hold nothing. It takes no memory.
+    fn close(&mut self)
+        ensures { IsSameArray self.old self.new }
+    {
+        let slots = self.entries.len();
+        if slots <= FEW || slots / 2 <= self.count {
+            return;
+        }
+        keep_full(&mut self.entries);
+        self.passed = 0;
+        self.index.relink(self.entries.as_slice());
+    }
+
+    // Takes off the last slot.
+    fn pop_slot(&mut self) -> Option<Entry<V>>
+        ensures entries { self.old.entries ≡ self.new.entries ++ option_to_list result }
+        ensures none { result ≡ None → self.old.entries ≡ [] }
+        ensures next { next_of self.new ≡ next_of self.old }
+    {
+        if self.entries.as_slice().is_empty() {
+            return None;
+        }
+        let slot = self.entries.len() - 1;
+        self.index.forget(self.entries.as_slice(), slot);
+        self.count -= self.entries[slot].held();
+        self.entries.pop()
+    }
+
     /// The last pair, which is taken out. The next key stays.
     pub fn pop(&mut self) -> Option<(Key, V)>
         ensures pairs { MatchOption result ((pairs_of self.old ≡ []) × (pairs_of self.new ≡ [])) (λ p. pairs_of self.old ≡ pairs_of self.new ++ (p.0, p.1) ∷ []) }
         ensures next { next_of self.new ≡ next_of self.old }
     {
-        let Some(value) = self.values.pop() else {
-            return None;
-        };
-        let Some(key) = self.keys.pop() else {
-            return None;
-        };
-        Some((key, value))
+        while let Some(entry) = self.pop_slot() {
+            let Entry { key, value } = entry;
+            if let Some(value) = value {
+                return Some((key, value));
+            }
+        }
+        None
     }
 
     // Adds a pair at the end, whose key is not there yet. After an error nothing has changed.
@@ -196,12 +282,18 @@ impl<V: Drop> OrderMap<V> {
         ensures next { OnOk result (next_of self.new ≡ next_after key (next_of self.old)) }
         ensures err { OnErr result (IsSameArray self.old self.new) }
     {
+        let alloc = *self.entries.allocator();
+        self.index.make_room(alloc, self.entries.as_slice())?;
         let next = raised(&key, self.next);
-        self.values.push(value)?;
-        if let Err(e) = self.keys.push(key) {
-            let _last = self.values.pop();
-            return Err(AllocError::from(e));
-        }
+        let slot = self.entries.len();
+        let entry = Entry {
+            key,
+            value: Some(value),
+        };
+        self.entries.push(entry)?;
+        self.index.note(self.entries.as_slice(), slot);
+        self.count += 1;
+        self.passed = self.passed.min(slot);
         self.next = next;
         Ok(())
     }
@@ -212,10 +304,10 @@ impl<V: Drop> OrderMap<V> {
         ensures pairs { pairs_of self.new ≡ (if is_some result then put key.now value (pairs_of self.old) else pairs_of self.old) }
         ensures next { next_of self.new ≡ next_of self.old }
     {
-        let Some(i) = find(self.keys.as_slice(), key) else {
+        let Some(slot) = self.find(key) else {
             return None;
         };
-        Some(mem::replace(&mut self.values[i], value))
+        self.exchange(key, slot, value)
     }
 
     /// Sets the value of a key, in its place or at the end, and gives its old value. After an error nothing has changed.
@@ -225,11 +317,11 @@ impl<V: Drop> OrderMap<V> {
         ensures next { OnOk result (next_of self.new ≡ next_after key (next_of self.old)) }
         ensures err { OnErr result (IsSameArray self.old self.new) }
     {
-        let Some(i) = find(self.keys.as_slice(), &key) else {
+        let Some(slot) = self.find(&key) else {
             self.push(key, value)?;
             return Ok(None);
         };
-        Ok(Some(mem::replace(&mut self.values[i], value)))
+        Ok(self.exchange(&key, slot, value))
     }
 
     /// Adds a value at the end under the next key, and gives that key. After an error nothing has changed.
@@ -256,13 +348,13 @@ impl<V: Drop> OrderMap<V> {
         ensures pairs { pairs_of self.new ≡ without key.now (pairs_of self.old) }
         ensures next { next_of self.new ≡ next_of self.old }
     {
-        let Some(i) = find(self.keys.as_slice(), key) else {
+        let Some(slot) = self.find(key) else {
             return None;
         };
-        let value = self.values.remove(i);
-        let key = self.keys.remove(i);
-        drop(key);
-        Some(value)
+        let value = self.cut(key, slot);
+        self.advance(slot);
+        self.close();
+        value
     }
 }
 
@@ -271,9 +363,17 @@ impl<V: Clone> Clone for OrderMap<V> {
 
     /// The same keys in the same order, a copy of each value, and the same next key.
     fn clone(&self) -> Result<OrderMap<V>, AllocError> {
-        let keys = self.keys.clone()?;
-        let values = self.values.clone()?;
+        let entries = self.entries.clone()?;
+        let index = self.index.clone()?;
+        let count = self.count;
+        let passed = self.passed;
         let next = self.next;
-        Ok(OrderMap { keys, values, next })
+        Ok(OrderMap {
+            entries,
+            index,
+            count,
+            passed,
+            next,
+        })
     }
 }

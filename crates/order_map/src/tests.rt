@@ -1,3 +1,5 @@
+mod sequences;
+
 use crate::{AppendFault, ByteText, Key, OrderMap};
 use std::alloc::Global;
 use std::process::Abort;
@@ -51,6 +53,9 @@ fn negative_keys_leave_the_next_key_at_0(rt: HostRuntime) -> Result<(), Fail> {
     assert!(rt; map.set(Key::Int(-7), 1u32)?.is_none());
     assert!(rt; matches!(map.append(2), Ok(0)));
     assert_eq!(rt; shown(rt.alloc(), &map)?.as_str(), "-7=1;0=2;");
+    assert!(rt;
+        Key::Int(7).hash() == Key::Int(7).hash() && Key::Int(7).hash() != Key::Int(8).hash()
+    );
     Ok(())
 }
 
@@ -72,7 +77,11 @@ fn a_copy_is_its_own(rt: HostRuntime) -> Result<(), Fail> {
     }
     assert!(rt; map.pop().is_none() && map.first().is_none());
     assert_eq!(rt; map.next_key(), Some(5));
-    let mut empty: OrderMap<u32> = OrderMap::new(alloc);
+    match copy.into_values().next() {
+        Some((value, rest)) => assert!(rt; value == 1 && rest.next().is_none()),
+        None => assert!(rt; false),
+    }
+    let mut empty: OrderMap<u32> = OrderMap::new(map.allocator());
     empty.raise_next(9);
     empty.lower_next();
     assert_eq!(rt; empty.next_key(), Some(8));

@@ -42,7 +42,7 @@ in_every j (k ∷ ks) p h e =
     ]
 
 -- what is chosen from rows is one of them, or what comes last
-picked : (p : Kind → Rule → Bool) (n : ℕ) (last : Option Rule) (all : List Row) (r : Rule) → pick n last all ≡ Some r → rows_pass p all ≡ true
+pub picked : (p : Kind → Rule → Bool) (n : ℕ) (last : Option Rule) (all : List Row) (r : Rule) → pick n last all ≡ Some r → rows_pass p all ≡ true
     → (last ≡ Some r) ⊎ ((k : Kind) × (p k r ≡ true))
 picked p n last [] r c h = inl c
 picked p n last ((k, x) ∷ more) r c h =
@@ -70,7 +70,7 @@ row_of p kind last ((k, x) ∷ more) h s =
       | inr y ↦ let q = row_of p kind last more (rw y at h) t.1 in (q.0, rw y q.1, q.2)
     ]
 
-last_is : (a : Part) (r : Rule) → last_of a ≡ Some r → ((finishes a ≡ true) × (r ≡ none_of a)) ⊎ (laid a ≡ Some r)
+pub last_is : (a : Part) (r : Rule) → last_of a ≡ Some r → ((finishes a ≡ true) × (r ≡ none_of a)) ⊎ (laid a ≡ Some r)
 last_is a r c = elim (either (finishes a)) [
   | inl y ↦ inl (y, let e : Some (none_of a) ≡ Some r = rw y at c in cc)
   | inr y ↦ inr (rw y at c)
@@ -88,7 +88,7 @@ held : (n : ℕ) (ks : List Kind) → holds n ks ≡ true → is_cons ks ≡ tru
 held n [] h = absurd cc
 held n (k ∷ ks) h = refl
 
-passed : (p : Rule → Bool) (x : Option Rule) (r : Rule) → x ≡ Some r → laid_pass p x ≡ true → p r ≡ true
+pub passed : (p : Rule → Bool) (x : Option Rule) (r : Rule) → x ≡ Some r → laid_pass p x ≡ true → p r ≡ true
 passed p None r e h = absurd cc
 passed p (Some x) r e h = let s : x ≡ r = cc in subst (λ z. p z ≡ true) s h
 

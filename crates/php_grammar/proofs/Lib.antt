@@ -12,3 +12,6 @@ pub mod Exact
 pub mod Judge
 pub mod Nodes
 pub mod Single
+pub mod Reach
+pub mod Bounds
+pub mod Choices

@@ -1,5 +1,5 @@
 -- What a rule gives of what was read by its symbols, and what an operator makes of its operands.
-use Rattle.std.specs.Prelude.{ℕ, ℤ, pos, List, [], ◌∷◌, Option, Some, None, Bool, true, false}
+use Rattle.std.specs.Prelude.{ℕ, ℤ, pos, List, [], ◌∷◌, ◌++◌, Option, Some, None, Bool, true, false}
 use Rattle.php_tree.specs.declared.name.FunName.{FunName}
 use Rattle.php_tree.specs.declared.name.ConstName.{ConstName}
 use Rattle.php_tree.specs.declared.name.ClassName.{ClassName}
@@ -24,17 +24,17 @@ use Rattle.php_tree.specs.declared.expr.IncludeKind.TheVariants as include
 use Rattle.php_tree.specs.declared.expr.QuotePart.{QuotePart}
 use Rattle.php_tree.specs.declared.expr.QuotePart.TheVariants as q
 use Rattle.php_tree.specs.Expressions as x
-use Rattle.php_tree.specs.Expressions.{Expression, Expressions, ArrayItems, Accesses, QuoteParts}
+use Rattle.php_tree.specs.Expressions.{Expression, Expressions, ArrayItems, Accesses, Branches, QuoteParts}
 use Rattle.php_tree.specs.ExpressionOf.{key_of}
 use Rattle.php_tree.specs.Line.{line_of}
 use Rattle.php_tree.specs.Statements as y
-use Rattle.php_tree.specs.Statements.{Statement, Statements, Members, Parameter, Head}
+use Rattle.php_tree.specs.Statements.{Statement, Statements, Arms, Members, Parameter, Head}
 use Rattle.php_grammar.specs.declared.token.Kind.{Kind}
 use Rattle.php_grammar.specs.declared.token.Detail.{Detail}
 use Rattle.php_grammar.specs.declared.token.Detail.TheVariants as d
 use Rattle.php_grammar.specs.Parts as g
 use Rattle.php_grammar.specs.Parts.{Part, Rule}
-use Rattle.php_grammar.specs.Values.{Lexeme, Ending, nowhere, sets, refers, steps_by, Tail, goes, calls, exits, names, Colons, at_property, at_class, at_member, Value, leaf, stmt_of, stmts_of, expr_of, exprs_of, begun_of, maybe_of, links_of, branches_of, branch_of, step_of, tail_of, colons_of, ending_of, accesses_of, items_of, array_of, static_of, named_of, class_of, var_of, vars_of, second_of, statics_of, constants_of, class_constants_of, properties_of, text_of, int_of, names_of, parent_of, hint_of, params_of, param_of, amp_of, cases_of, clauses_of, members_of, body_of, if_parts, modded_of, unit_of}
+use Rattle.php_grammar.specs.Values.{Lexeme, Ending, First, Tail, ConstTail, Branch, Step, Join, Core, Value, nowhere, sets, refers, steps_by, nothing, arguments, given_to, at_property, at_class, at_member, at_call, only_word, class_form, class_member, array_of_items, whole_branch, short_branch, coalesces, compares, instance_of, instance_of_var, by_links, by_branches, by_step, by_nothing, constants_core, properties_core, function_core, leaf, stmt_of, stmts_of, expr_of, exprs_of, begun_of, maybe_of, links_of, branches_of, branch_of, step_of, tail_of, ending_of, accesses_of, items_of, array_of, static_of, named_of, class_of, var_of, vars_of, second_of, statics_of, constants_of, class_constants_of, properties_of, text_of, int_of, names_of, parent_of, hint_of, params_of, param_of, amp_of, cases_of, clauses_of, members_of, body_of, if_parts, modded_of, unit_of, no_token, empty_tail, no_class, no_parameter, as_token, as_stmt, as_stmts, as_expr, as_exprs, as_maybe, as_links, as_branches, as_branch, as_tail, as_ending, as_accesses, as_items, as_named, as_class, as_vars, as_second, as_statics, as_constants, as_class_constants, as_properties, as_text, as_int, as_names, as_parent, as_hint, as_params, as_param, as_amp, as_cases, as_clauses, as_members, as_body, as_join}
 
 -- ---- which operator a token is
 
@@ -77,33 +77,22 @@ visibility_of _ = None
 -- ---- names, hints, parameters
 
 abbrev pub class_name : Lexeme → ClassName
-class_name t = record { text = t.text }
+class_name t = record { text = t.text; line = t.line }
 
 abbrev pub const_name : Lexeme → ConstName
 const_name t = record { text = t.text }
 
 abbrev pub fun_name : Lexeme → FunName
-fun_name t = record { text = t.text }
+fun_name t = record { text = t.text; line = t.line }
 
 abbrev pub member_name : Lexeme → MemberName
-member_name t = record { text = t.text }
+member_name t = record { text = t.text; line = t.line }
 
 abbrev pub hint : Bool → ClassName → ℕ → Hint
 hint nullable name line = record { nullable = nullable; name = name; line = line }
 
--- whether there is one
-abbrev pub is_there : {A : Type 0} → Option A → Bool
-is_there (Some a) = true
-is_there None = false
-
--- the line of the first token of a parameter
-abbrev pub first_line : Option Hint → Option ℕ → ℕ → ℕ
-first_line (Some h) by line = h.line
-first_line None (Some l) line = l
-first_line None None line = line
-
-abbrev pub parameter : Option Hint → Option ℕ → Lexeme → Option (Expression ℕ) → Parameter ℕ
-parameter h by t e = record { hint = h; by_reference = is_there by; variable = t.number; default = e; line = first_line h by t.line }
+abbrev pub parameter : Option Hint → Bool → Lexeme → Option (Expression ℕ) → Parameter ℕ
+parameter h by t e = record { hint = h; by_reference = by; variable = t.number; default = e; line = t.line }
 
 abbrev pub head_of : Lexeme → List (Parameter ℕ) → Option Hint → ℕ → Head ℕ
 head_of name ps h line = record { name = fun_name name; parameters = ps; gives = h; line = line }
@@ -115,50 +104,76 @@ span_of t u = record { from = t.at; to = u.at }
 abbrev pub no_modifiers : Modifiers
 no_modifiers = record { visibility = None; is_static = false; is_abstract = false; is_final = false; is_var = false }
 
-abbrev pub method_or_bodiless : Modifiers → Head ℕ → Option (Statements ℕ × Span) → ℕ → Members ℕ → Members ℕ
-method_or_bodiless m h (Some (ss, at)) l = y.method m (y.with_body h ss at) l
-method_or_bodiless m h None l = y.bodiless m h l
+abbrev pub core_before : Core → Modifiers → ℕ → Members ℕ → Members ℕ
+core_before (constants_core cs) m l ms = y.class_constants cs l ms
+core_before (properties_core ps) m l ms = y.properties m ps l ms
+core_before (function_core h (Some (ss, at))) m l ms = y.method m (y.with_body h ss at) l ms
+core_before (function_core h None) m l ms = y.bodiless m h l ms
+
+abbrev pub mods_in : Value → Modifiers
+mods_in (modded_of l m c) = m
+mods_in _ = no_modifiers
+
+abbrev pub core_in : Value → Core
+core_in (modded_of l m c) = c
+core_in _ = constants_core []
+
+abbrev pub line_in : Value → ℕ
+line_in (modded_of l m c) = l
+line_in _ = 0
 
 -- ---- statements
 
 abbrev pub one : Statement ℕ → Statements ℕ
 one s = y.statement s y.no_more
 
+abbrev pub arms_in : Value → Arms ℕ
+arms_in (if_parts ss arms last) = arms
+arms_in _ = y.no_arms
+
+abbrev pub last_in : Value → Statements ℕ
+last_in (if_parts ss arms last) = last
+last_in _ = y.no_more
+
+abbrev pub guarded_in : Value → Statements ℕ
+guarded_in (if_parts ss arms last) = ss
+guarded_in _ = y.no_more
+
 abbrev pub jump : Detail → ℤ → ℕ → Statement ℕ
 jump d.Continue n l = y.continue n l
 jump _ n l = y.break n l
 
 -- the key and the value of a `foreach`, by its first variable and the one after `=>`
-abbrev pub key_of_each : Lexeme → Option ℕ → Option ℕ
-key_of_each t None = None
-key_of_each t (Some v) = Some t.number
+abbrev pub key_of_each : ℕ → Option ℕ → Option ℕ
+key_of_each n None = None
+key_of_each n (Some v) = Some n
 
-abbrev pub value_of_each : Lexeme → Option ℕ → ℕ
-value_of_each t None = t.number
-value_of_each t (Some v) = v
+abbrev pub value_of_each : ℕ → Option ℕ → ℕ
+value_of_each n None = n
+value_of_each n (Some v) = v
 
 -- ---- operands
 
 -- what an operand begins with
 pub data Begun : Type 0 where
-  word : Lexeme → Begun
-  variable : Lexeme → Begun
+  word : List ℕ → ℕ → Begun
+  variable : ℕ → ℕ → Begun
   new_class : ClassName → ℕ → Begun
   new_variable : ℕ → ℕ → Begun
   given : Expression ℕ → Begun
 
 -- by itself
 abbrev pub alone : Begun → Expression ℕ
-alone (word t) = x.constant (const_name t) t.line
-alone (variable t) = x.var t.number t.line
+alone (word w l) = x.constant (record { text = w }) l
+alone (variable v l) = x.var v l
 alone (new_class n l) = x.new n x.no_more l
 alone (new_variable v l) = x.new_var v x.no_more l
 alone (given e) = e
 
 -- with arguments
 abbrev pub called : Begun → Expressions ℕ → Expression ℕ
-called (word t) es = x.call (fun_name t) es t.line
-called (variable t) es = x.call_var t.number es t.line
+called (word w l) es = x.call (record { text = w; line = l }) es l
+called (variable v l) es = x.call_var v es l
 called (new_class n l) es = x.new n es l
 called (new_variable v l) es = x.new_var v es l
 called (given e) es = e
@@ -183,32 +198,87 @@ ended h (sets op e) = x.assign h op e (line_of h)
 ended h (refers v) = x.assign_reference (number_of h) v (line_of h)
 ended h (steps_by op) = x.step op h (line_of h)
 
--- the accesses and the ending, where nothing else stands
+-- the accesses and the ending
 abbrev pub after : Expression ℕ → Tail → Expression ℕ
-after h (goes es e) = ended (posted h es) e
-after h _ = h
+after h r = ended (posted h r.accesses) r.ending
 
-abbrev pub named : Lexeme → Colons → Expression ℕ
-named t (at_property u r) = after (x.static_property (class_name t) (member_name u) t.line) r
-named t (at_class r) = after (x.class_text (class_name t) t.line) r
-named t (at_member u (calls es r)) = after (x.static_call (class_name t) (member_name u) es t.line) r
-named t (at_member u r) = after (x.class_constant (class_name t) (member_name u) t.line) r
+abbrev pub class_at : List ℕ → ℕ → ClassName
+class_at w l = record { text = w; line = l }
+
+-- what a class and what stands after its `::` are, by themselves
+abbrev pub member_of : List ℕ → ℕ → First → Expression ℕ
+member_of w l (at_property m) = x.static_property (class_at w l) m l
+member_of w l at_class = x.class_text (class_at w l) l
+member_of w l (at_member m) = x.class_constant (class_at w l) m l
+member_of w l (at_call m es) = x.static_call (class_at w l) m es l
+member_of w l _ = x.constant (record { text = w }) l
+
+abbrev pub named : List ℕ → ℕ → Tail → Expression ℕ
+named w l r = after (member_of w l r.first) r
+
+-- a head with what stands directly after it
+abbrev pub headed : Begun → First → Expression ℕ
+headed h (arguments es) = called h es
+headed h (given_to e) = exited (alone h) e
+headed (word w l) (at_property m) = member_of w l (at_property m)
+headed (word w l) at_class = member_of w l at_class
+headed (word w l) (at_member m) = member_of w l (at_member m)
+headed (word w l) (at_call m es) = member_of w l (at_call m es)
+headed h _ = alone h
 
 abbrev pub finished : Begun → Tail → Expression ℕ
-finished h (calls es r) = after (called h es) r
-finished h (exits e r) = after (exited (alone h) e) r
-finished (word t) (names c) = named t c
-finished h r = after (alone h) r
+finished h r = after (headed h r.first) r
+
+-- an ending, with nothing before it
+abbrev pub ends : Ending → Tail
+ends e = record { first = nothing; accesses = x.no_accesses; ending = e }
 
 -- an access in front of the others
 abbrev pub indexed : Expression ℕ → Tail → Tail
-indexed e (goes es end) = goes (x.index e es) end
-indexed e r = r
+indexed e r = record r { accesses = x.index e r.accesses }
+
+-- a property, or a method where arguments follow
+abbrev pub member_access : MemberName → First → Accesses ℕ → Accesses ℕ
+member_access m (arguments us) es = x.method m us es
+member_access m _ es = x.property m es
 
 abbrev pub accessed : Lexeme → Tail → Tail
-accessed t (goes es end) = goes (x.property (member_name t) es) end
-accessed t (calls us (goes es end)) = goes (x.method (member_name t) us es) end
-accessed t r = r
+accessed t r = record { first = nothing; accesses = member_access (member_name t) r.first r.accesses; ending = r.ending }
+
+-- a member after `::`, with arguments or without
+abbrev pub member_first : MemberName → First → First
+member_first m (arguments es) = at_call m es
+member_first m _ = at_member m
+
+-- a class or a variable after `new`
+abbrev pub new_in : Value → ℕ → Begun
+new_in (var_of v) l = new_variable v l
+new_in n l = new_class (as_class n) l
+
+abbrev pub instance_in : Value → Step
+instance_in (var_of v) = instance_of_var v
+instance_in n = instance_of (as_class n)
+
+-- `array` with what stands after it
+abbrev pub array_or_name : List ℕ → ℕ → Value → Expression ℕ
+array_or_name w l (array_of (Some es) r) = finished (given (x.array es l)) r
+array_or_name w l (array_of None r) = named w l r
+array_or_name w l _ = x.constant (record { text = w }) l
+
+-- a class with what stands after its `::` in a place
+abbrev pub static_in : List ℕ → ℕ → Value → Expression ℕ
+static_in w l (static_of m es) = posted (x.static_property (class_at w l) m l) es
+static_in w l _ = x.constant (record { text = w }) l
+
+abbrev pub const_named : List ℕ → ℕ → ConstTail → Expression ℕ
+const_named w l only_word = x.constant (record { text = w }) l
+const_named w l class_form = x.class_text (class_at w l) l
+const_named w l (class_member m) = x.class_constant (class_at w l) m l
+const_named w l (array_of_items es) = x.array es l
+
+abbrev pub branch_before : Branch → Branches ℕ → Branches ℕ
+branch_before (whole_branch e d) bs = x.full e d bs
+branch_before (short_branch e) bs = x.short e bs
 
 abbrev pub an_item : Expression ℕ → Option (Expression ℕ) → ArrayItems ℕ → ArrayItems ℕ
 an_item e None es = x.item e es
@@ -225,6 +295,29 @@ filled (q.Embedded u ∷ ps) (x.expression e es) = x.part_embedded e (filled ps 
 filled (q.Embedded u ∷ ps) x.no_more = filled ps x.no_more
 
 -- ---- rules
+
+-- ---- operators
+
+abbrev pub stepped : Expression ℕ → Step → Expression ℕ
+stepped h (coalesces e) = x.coalesce h e (line_of h)
+stepped h (compares op e) = x.compare h op e (line_of h)
+stepped h (instance_of n) = x.instance_of h n (line_of h)
+stepped h (instance_of_var v) = x.instance_of_var h v (line_of h)
+
+abbrev pub joined : Expression ℕ → Join → Expression ℕ
+joined e (by_links ls) = x.chain e ls (line_of e)
+joined e (by_branches bs) = x.choice e bs (line_of e)
+joined e (by_step s) = stepped e s
+joined e by_nothing = e
+
+abbrev pub joined_all : Expression ℕ → List Join → Expression ℕ
+joined_all e [] = e
+joined_all e (j ∷ js) = joined_all (joined e j) js
+
+-- a `static` statement: variables, or an expression that begins with the class
+abbrev pub static_statement : List ℕ → ℕ → Value → Statement ℕ
+static_statement w l (begun_of r js) = y.evaluate (joined_all (named w l r) js) l
+static_statement w l r = y.static_vars (as_statics r) l
 
 -- what a part gives of which nothing is read
 abbrev pub nothing_of : Part → Value
@@ -244,7 +337,7 @@ nothing_of g.more_catches = clauses_of y.no_clauses
 nothing_of g.more_caught = names_of []
 nothing_of g.params = params_of []
 nothing_of g.more_params = params_of []
-nothing_of g.maybe_amp = amp_of None
+nothing_of g.maybe_amp = amp_of false
 nothing_of g.maybe_hint = hint_of None
 nothing_of g.maybe_result = hint_of None
 nothing_of g.maybe_parent = parent_of None
@@ -254,7 +347,7 @@ nothing_of g.more_names = names_of []
 nothing_of (g.members _) = members_of y.no_members
 nothing_of g.more_class_consts = class_constants_of []
 nothing_of g.more_properties = properties_of []
-nothing_of (g.tail _ _) = tail_of (goes x.no_accesses nowhere)
+nothing_of (g.tail _ _) = tail_of empty_tail
 nothing_of g.args = exprs_of x.no_more
 nothing_of g.more_args = exprs_of x.no_more
 nothing_of (g.items _) = items_of x.no_items
@@ -262,237 +355,226 @@ nothing_of (g.arrow_value _) = maybe_of None
 nothing_of (g.more_items _) = items_of x.no_items
 nothing_of g.more_places = exprs_of x.no_more
 nothing_of g.place_tail = accesses_of x.no_accesses
-nothing_of g.c_word_tail = named_of (λ w. x.constant (const_name w) w.line)
+nothing_of g.c_word_tail = named_of only_word
 nothing_of (g.operators _ g.choice) = branches_of x.no_branches
 nothing_of (g.operators _ _) = links_of x.no_links
 nothing_of _ = unit_of
 
 unfoldable pub act : Rule → List Value → Value
 act (g.none_of a) [] = nothing_of a
-act g.whole (stmts_of ss ∷ leaf t ∷ []) = stmts_of ss
-act g.some_stmts (stmt_of s ∷ stmts_of ss ∷ []) = stmts_of (y.statement s ss)
-act g.inline_text (leaf t ∷ []) = stmt_of (y.inline t.text t.line)
-act g.echo_tag (leaf t ∷ expr_of e ∷ exprs_of es ∷ leaf u ∷ []) = stmt_of (y.echo (x.expression e es) t.line)
-act g.echo_word (leaf t ∷ expr_of e ∷ exprs_of es ∷ leaf u ∷ []) = stmt_of (y.echo (x.expression e es) t.line)
-act g.empty_stmt (leaf t ∷ []) = stmt_of (y.nothing t.line)
-act g.block (leaf t ∷ stmts_of ss ∷ leaf u ∷ []) = stmt_of (y.block ss t.line)
-act g.if_stmt (leaf t ∷ leaf u ∷ expr_of e ∷ leaf v ∷ if_parts ss arms last ∷ []) = stmt_of (y.conditional (y.arm e ss arms) last t.line)
-act g.while_stmt (leaf t ∷ leaf u ∷ expr_of e ∷ leaf v ∷ stmts_of ss ∷ []) = stmt_of (y.while_loop e ss t.line)
-act g.do_stmt (leaf t ∷ stmt_of s ∷ leaf u ∷ leaf v ∷ expr_of e ∷ leaf w ∷ leaf z ∷ []) = stmt_of (y.do_loop (one s) e t.line)
-act g.for_stmt (leaf t ∷ leaf u ∷ exprs_of a ∷ leaf v ∷ exprs_of b ∷ leaf w ∷ exprs_of c ∷ leaf z ∷ stmts_of ss ∷ []) = stmt_of (y.for_loop a b c ss t.line)
-act g.foreach_stmt (leaf t ∷ leaf u ∷ expr_of e ∷ leaf v ∷ leaf w ∷ second_of second ∷ leaf z ∷ stmts_of ss ∷ []) = stmt_of (y.foreach e (key_of_each w second) (value_of_each w second) ss t.line)
-act g.switch_stmt (leaf t ∷ leaf u ∷ expr_of e ∷ leaf v ∷ cases_of arms ∷ []) = stmt_of (y.switch e arms t.line)
-act g.jump_stmt (leaf t ∷ int_of n ∷ leaf u ∷ []) = stmt_of (jump t.detail n t.line)
-act g.return_stmt (leaf t ∷ maybe_of e ∷ leaf u ∷ []) = stmt_of (y.return e t.line)
-act g.global_stmt (leaf t ∷ leaf u ∷ vars_of vs ∷ leaf v ∷ []) = stmt_of (y.global (u.number ∷ vs) t.line)
-act g.static_stmt (leaf t ∷ statics_of vs ∷ []) = stmt_of (y.static_vars vs t.line)
-act g.static_stmt (leaf t ∷ begun_of f ∷ []) = stmt_of (y.evaluate (f t) t.line)
-act g.unset_stmt (leaf t ∷ leaf u ∷ expr_of e ∷ exprs_of es ∷ leaf v ∷ leaf w ∷ []) = stmt_of (y.unset (x.expression e es) t.line)
-act g.throw_stmt (leaf t ∷ expr_of e ∷ leaf u ∷ []) = stmt_of (y.throw e t.line)
-act g.try_stmt (leaf t ∷ leaf u ∷ stmts_of ss ∷ leaf v ∷ clauses_of cs ∷ []) = stmt_of (y.try ss cs t.line)
-act g.function_stmt (leaf t ∷ leaf name ∷ leaf u ∷ params_of ps ∷ leaf v ∷ hint_of h ∷ leaf w ∷ stmts_of ss ∷ leaf z ∷ []) = stmt_of (y.function (y.with_body (head_of name ps h t.line) ss (span_of w z)) t.line)
-act g.abstract_class (leaf t ∷ leaf u ∷ leaf name ∷ parent_of p ∷ names_of ns ∷ leaf v ∷ members_of ms ∷ leaf w ∷ []) = stmt_of (y.class (y.with_members Abstract (class_name name) p ns ms t.line) t.line)
-act g.final_class (leaf t ∷ leaf u ∷ leaf name ∷ parent_of p ∷ names_of ns ∷ leaf v ∷ members_of ms ∷ leaf w ∷ []) = stmt_of (y.class (y.with_members Final (class_name name) p ns ms t.line) t.line)
-act g.plain_class (leaf t ∷ leaf name ∷ parent_of p ∷ names_of ns ∷ leaf v ∷ members_of ms ∷ leaf w ∷ []) = stmt_of (y.class (y.with_members Plain (class_name name) p ns ms t.line) t.line)
-act g.interface_stmt (leaf t ∷ leaf name ∷ names_of ns ∷ leaf v ∷ members_of ms ∷ leaf w ∷ []) = stmt_of (y.class (y.with_members Interface (class_name name) None ns ms t.line) t.line)
-act g.const_stmt (leaf t ∷ leaf name ∷ leaf u ∷ expr_of e ∷ constants_of cs ∷ leaf v ∷ []) = stmt_of (y.constants ((const_name name, e) ∷ cs) t.line)
-act g.removed_stmt (leaf t ∷ leaf u ∷ leaf kind ∷ leaf v ∷ leaf path ∷ text_of name ∷ leaf w ∷ leaf z ∷ []) = stmt_of (y.removed kind.text path.text name t.line)
-act g.expr_stmt (expr_of e ∷ leaf t ∷ []) = stmt_of (y.evaluate e (line_of e))
-act g.if_listed (leaf t ∷ stmts_of ss ∷ if_parts none arms last ∷ []) = if_parts ss arms last
-act g.if_single (stmt_of s ∷ if_parts none arms last ∷ []) = if_parts (one s) arms last
-act g.else_if (leaf t ∷ leaf u ∷ expr_of e ∷ leaf v ∷ stmt_of s ∷ if_parts none arms last ∷ []) = if_parts y.no_more (y.arm e (one s) arms) last
-act g.else_single (leaf t ∷ stmt_of s ∷ []) = if_parts y.no_more y.no_arms (one s)
-act g.else_if_listed (leaf t ∷ leaf u ∷ expr_of e ∷ leaf v ∷ leaf w ∷ stmts_of ss ∷ if_parts none arms last ∷ []) = if_parts y.no_more (y.arm e ss arms) last
-act g.else_listed (leaf t ∷ leaf u ∷ stmts_of ss ∷ leaf v ∷ leaf w ∷ []) = if_parts y.no_more y.no_arms ss
-act g.end_if (leaf t ∷ leaf u ∷ []) = if_parts y.no_more y.no_arms y.no_more
-act g.while_listed (leaf t ∷ stmts_of ss ∷ leaf u ∷ leaf v ∷ []) = stmts_of ss
-act g.for_listed (leaf t ∷ stmts_of ss ∷ leaf u ∷ leaf v ∷ []) = stmts_of ss
-act g.foreach_listed (leaf t ∷ stmts_of ss ∷ leaf u ∷ leaf v ∷ []) = stmts_of ss
-act g.body_single (stmt_of s ∷ []) = stmts_of (one s)
-act g.switch_braced (leaf t ∷ unit_of ∷ cases_of arms ∷ leaf u ∷ []) = cases_of arms
-act g.switch_listed (leaf t ∷ unit_of ∷ cases_of arms ∷ leaf u ∷ leaf v ∷ []) = cases_of arms
-act g.a_semi (leaf t ∷ []) = unit_of
-act g.case_arm (leaf t ∷ expr_of e ∷ unit_of ∷ stmts_of ss ∷ cases_of arms ∷ []) = cases_of (y.case e ss arms)
-act g.default_arm (leaf t ∷ unit_of ∷ stmts_of ss ∷ cases_of arms ∷ []) = cases_of (y.default_case ss arms)
-act g.arm_colon (leaf t ∷ []) = unit_of
-act g.arm_semi (leaf t ∷ []) = unit_of
-act g.an_int (leaf t ∷ []) = int_of t.int
-act g.an_expr (expr_of e ∷ []) = maybe_of (Some e)
-act g.key_then_value (leaf t ∷ leaf u ∷ []) = second_of (Some u.number)
-act g.next_var (leaf t ∷ leaf u ∷ vars_of vs ∷ []) = vars_of (u.number ∷ vs)
-act g.static_vars (leaf t ∷ maybe_of e ∷ statics_of vs ∷ leaf u ∷ []) = statics_of ((t.number, e) ∷ vs)
-act g.static_expr (begun_of f ∷ leaf t ∷ []) = begun_of f
-act g.next_static (leaf t ∷ leaf u ∷ maybe_of e ∷ statics_of vs ∷ []) = statics_of ((u.number, e) ∷ vs)
-act g.a_default (leaf t ∷ expr_of e ∷ []) = maybe_of (Some e)
-act g.next_const (leaf t ∷ leaf name ∷ leaf u ∷ expr_of e ∷ constants_of cs ∷ []) = constants_of ((const_name name, e) ∷ cs)
-act g.next_text (leaf t ∷ leaf u ∷ []) = text_of (Some u.text)
-act g.a_catch (leaf t ∷ leaf u ∷ class_of n ∷ names_of ns ∷ leaf v ∷ leaf w ∷ leaf z ∷ stmts_of ss ∷ leaf q ∷ clauses_of cs ∷ []) = clauses_of (y.clause (n ∷ ns) v.number ss cs)
-act g.next_caught (leaf t ∷ class_of n ∷ names_of ns ∷ []) = names_of (n ∷ ns)
-act g.some_params (param_of p ∷ params_of ps ∷ []) = params_of (p ∷ ps)
-act g.next_param (leaf t ∷ param_of p ∷ params_of ps ∷ []) = params_of (p ∷ ps)
-act g.a_param (hint_of h ∷ amp_of by ∷ leaf t ∷ maybe_of e ∷ []) = param_of (parameter h by t e)
-act g.an_amp (leaf t ∷ []) = amp_of (Some t.line)
-act g.open_hint (leaf t ∷ class_of n ∷ []) = hint_of (Some (hint true n t.line))
-act g.hint_word (leaf t ∷ []) = class_of (class_name t)
-act g.hint_static (leaf t ∷ []) = class_of (class_name t)
-act g.hint_array (leaf t ∷ []) = class_of (class_name t)
-act g.plain_hint_word (leaf t ∷ []) = hint_of (Some (hint false (class_name t) t.line))
-act g.plain_hint_static (leaf t ∷ []) = hint_of (Some (hint false (class_name t) t.line))
-act g.plain_hint_array (leaf t ∷ []) = hint_of (Some (hint false (class_name t) t.line))
-act g.a_result (leaf t ∷ hint_of h ∷ []) = hint_of h
-act g.a_plain_word (leaf t ∷ []) = leaf t
-act g.a_hint_word (leaf t ∷ []) = leaf t
-act g.class_word (leaf t ∷ []) = class_of (class_name t)
-act g.class_hint_word (leaf t ∷ []) = class_of (class_name t)
-act g.class_static (leaf t ∷ []) = class_of (class_name t)
-act g.class_array (leaf t ∷ []) = class_of (class_name t)
-act g.class_var (leaf t ∷ []) = var_of t.number
-act g.class_this (leaf t ∷ []) = var_of t.number
-act g.a_parent (leaf t ∷ class_of n ∷ []) = parent_of (Some n)
-act g.the_interfaces (leaf t ∷ class_of n ∷ names_of ns ∷ []) = names_of (n ∷ ns)
-act g.the_parents (leaf t ∷ class_of n ∷ names_of ns ∷ []) = names_of (n ∷ ns)
-act g.next_name (leaf t ∷ class_of n ∷ names_of ns ∷ []) = names_of (n ∷ ns)
-act (g.some_members _) (modded_of l f ∷ members_of ms ∷ []) = members_of (f no_modifiers l ms)
-act g.const_member (leaf t ∷ leaf name ∷ leaf u ∷ expr_of e ∷ class_constants_of cs ∷ leaf v ∷ []) = modded_of t.line (λ m l. y.class_constants ((member_name name, e) ∷ cs) l)
-act g.next_class_const (leaf t ∷ leaf name ∷ leaf u ∷ expr_of e ∷ class_constants_of cs ∷ []) = class_constants_of ((member_name name, e) ∷ cs)
-act (g.function_member _) (leaf t ∷ leaf name ∷ leaf u ∷ params_of ps ∷ leaf v ∷ hint_of h ∷ body_of b ∷ []) = modded_of t.line (λ m l. method_or_bodiless m (head_of name ps h t.line) b l)
-act g.property_member (leaf t ∷ maybe_of e ∷ properties_of ps ∷ leaf u ∷ []) = modded_of t.line (λ m l. y.properties m ((member_name t, e) ∷ ps) l)
-act g.this_member (leaf t ∷ maybe_of e ∷ properties_of ps ∷ leaf u ∷ []) = modded_of t.line (λ m l. y.properties m ((member_name t, e) ∷ ps) l)
-act g.next_property (leaf t ∷ leaf name ∷ maybe_of e ∷ properties_of ps ∷ []) = properties_of ((member_name name, e) ∷ ps)
-act g.plain_var (leaf t ∷ []) = leaf t
-act g.this_var (leaf t ∷ []) = leaf t
-act (g.visible_mod _ _ _ _ _) (leaf t ∷ modded_of l f ∷ []) = modded_of t.line (λ m. f (record m { visibility = visibility_of t.detail }))
-act (g.static_mod _ _ _ _ _) (leaf t ∷ modded_of l f ∷ []) = modded_of t.line (λ m. f (record m { is_static = true }))
-act (g.abstract_mod _ _ _ _ _) (leaf t ∷ modded_of l f ∷ []) = modded_of t.line (λ m. f (record m { is_abstract = true }))
-act (g.final_mod _ _ _ _ _) (leaf t ∷ modded_of l f ∷ []) = modded_of t.line (λ m. f (record m { is_final = true }))
-act (g.var_mod _ _ _ _ _) (leaf t ∷ modded_of l f ∷ []) = modded_of t.line (λ m. f (record m { is_var = true }))
-act g.with_body (leaf t ∷ stmts_of ss ∷ leaf u ∷ []) = body_of (Some (ss, span_of t u))
-act g.without_body (leaf t ∷ []) = body_of None
-act (g.named_word _) (leaf t ∷ []) = leaf t
-act g.print_expr (leaf t ∷ expr_of e ∷ []) = expr_of (x.print e t.line)
-act g.no_print (expr_of e ∷ []) = expr_of e
-act g.not_expr (leaf t ∷ expr_of e ∷ []) = expr_of (x.unary (unary_of t.detail) e t.line)
-act g.no_not (expr_of e ∷ []) = expr_of e
-act g.sign_expr (leaf t ∷ expr_of e ∷ []) = expr_of (x.unary (unary_of t.detail) e t.line)
-act g.prefix_expr (leaf t ∷ expr_of e ∷ []) = expr_of (x.unary (unary_of t.detail) e t.line)
-act g.step_before (leaf t ∷ expr_of e ∷ []) = expr_of (x.step (before_of t.detail) e t.line)
-act g.no_unary (expr_of e ∷ []) = expr_of e
-act (g.int_prim _) (leaf t ∷ tail_of r ∷ []) = expr_of (finished (given (x.int t.int t.line)) r)
-act (g.text_prim _) (leaf t ∷ tail_of r ∷ []) = expr_of (finished (given (x.text t.text t.line)) r)
-act (g.quote_prim _) (leaf t ∷ tail_of r ∷ []) = expr_of (finished (given (x.quote (filled t.parts x.no_more) t.line)) r)
-act (g.embedding_prim _) (leaf t ∷ expr_of e ∷ exprs_of es ∷ tail_of r ∷ []) = expr_of (finished (given (x.quote (filled t.parts (x.expression e es)) t.line)) r)
-act g.quote_next (leaf t ∷ expr_of e ∷ exprs_of es ∷ []) = exprs_of (x.expression e es)
-act g.quote_end (leaf t ∷ []) = exprs_of x.no_more
-act (g.var_prim _) (leaf t ∷ tail_of r ∷ []) = expr_of (finished (variable t) r)
-act (g.this_prim _) (leaf t ∷ tail_of r ∷ []) = expr_of (finished (variable t) r)
-act (g.word_prim _) (leaf t ∷ tail_of r ∷ []) = expr_of (finished (word t) r)
-act (g.hint_word_prim _) (leaf t ∷ tail_of r ∷ []) = expr_of (finished (word t) r)
-act (g.static_prim _) (leaf t ∷ leaf u ∷ colons_of c ∷ []) = expr_of (named t c)
-act (g.array_prim _) (leaf t ∷ array_of f ∷ []) = expr_of (f t)
-act (g.array_items _) (leaf t ∷ items_of es ∷ leaf u ∷ tail_of r ∷ []) = array_of (λ w. finished (given (x.array es w.line)) r)
-act (g.array_name _) (leaf t ∷ colons_of c ∷ []) = array_of (λ w. named w c)
-act (g.bracket_prim _) (leaf t ∷ items_of es ∷ leaf u ∷ tail_of r ∷ []) = expr_of (finished (given (x.array es t.line)) r)
-act (g.paren_prim _) (leaf t ∷ expr_of e ∷ leaf u ∷ tail_of r ∷ []) = expr_of (finished (given (x.paren e t.line)) r)
-act (g.isset_prim _) (leaf t ∷ leaf u ∷ expr_of e ∷ exprs_of es ∷ leaf v ∷ tail_of r ∷ []) = expr_of (finished (given (x.isset (x.expression e es) t.line)) r)
-act (g.empty_prim _) (leaf t ∷ leaf u ∷ expr_of e ∷ leaf v ∷ tail_of r ∷ []) = expr_of (finished (given (x.is_empty e t.line)) r)
-act (g.exit_prim _) (leaf t ∷ tail_of r ∷ []) = expr_of (finished (given (x.exit t.line)) r)
-act (g.new_prim _) (leaf t ∷ class_of n ∷ tail_of r ∷ []) = expr_of (finished (new_class n t.line) r)
-act (g.new_prim _) (leaf t ∷ var_of n ∷ tail_of r ∷ []) = expr_of (finished (new_variable n t.line) r)
-act g.clone_prim (leaf t ∷ expr_of e ∷ []) = expr_of (x.cloned e t.line)
-act g.include_prim (leaf t ∷ expr_of e ∷ []) = expr_of (x.included (include_of t.detail) e t.line)
-act (g.static_property _) (leaf t ∷ tail_of r ∷ []) = colons_of (at_property t r)
-act (g.static_property_this _) (leaf t ∷ tail_of r ∷ []) = colons_of (at_property t r)
-act (g.class_form _) (leaf t ∷ tail_of r ∷ []) = colons_of (at_class r)
-act (g.static_member _ _) (leaf t ∷ tail_of r ∷ []) = colons_of (at_member t r)
-act (g.open_index _ _) (leaf t ∷ tail_of r ∷ []) = tail_of r
-act (g.arrow _ _) (leaf t ∷ tail_of r ∷ []) = tail_of r
-act (g.call_args _) (leaf t ∷ exprs_of es ∷ leaf u ∷ tail_of r ∷ []) = tail_of (calls es r)
-act (g.exit_args _) (leaf t ∷ maybe_of e ∷ leaf u ∷ tail_of r ∷ []) = tail_of (exits e r)
-act (g.colons _) (leaf t ∷ colons_of c ∷ []) = tail_of (names c)
-act g.assign_var (leaf t ∷ ending_of e ∷ []) = tail_of (goes x.no_accesses e)
-act g.assign_place (leaf t ∷ expr_of e ∷ []) = tail_of (goes x.no_accesses (sets (assign_of t.detail) e))
-act g.assign_op (leaf t ∷ expr_of e ∷ []) = tail_of (goes x.no_accesses (sets (assign_of t.detail) e))
-act g.step_after (leaf t ∷ []) = tail_of (goes x.no_accesses (steps_by (after_of t.detail)))
-act g.appended (leaf t ∷ ending_of e ∷ []) = tail_of (goes (x.append x.no_accesses) e)
-act (g.at_index_place _) (expr_of e ∷ leaf t ∷ tail_of r ∷ []) = tail_of (indexed e r)
-act (g.at_index_other _) (expr_of e ∷ leaf t ∷ tail_of r ∷ []) = tail_of (indexed e r)
-act g.only_assign (leaf t ∷ expr_of e ∷ []) = ending_of (sets (assign_of t.detail) e)
-act g.only_assign_op (leaf t ∷ expr_of e ∷ []) = ending_of (sets (assign_of t.detail) e)
-act g.reference (leaf t ∷ leaf u ∷ []) = ending_of (refers u.number)
-act g.a_value (expr_of e ∷ []) = ending_of (sets Set e)
-act (g.place_member _ _) (leaf t ∷ tail_of r ∷ []) = tail_of (accessed t r)
-act (g.other_member _ _) (leaf t ∷ tail_of r ∷ []) = tail_of (accessed t r)
-act g.some_args (expr_of e ∷ exprs_of es ∷ []) = exprs_of (x.expression e es)
-act g.next_arg (leaf t ∷ expr_of e ∷ exprs_of es ∷ []) = exprs_of (x.expression e es)
-act (g.some_items _) (expr_of e ∷ maybe_of d ∷ items_of es ∷ []) = items_of (an_item e d es)
-act g.item_full (expr_of e ∷ []) = expr_of e
-act g.item_const (expr_of e ∷ []) = expr_of e
-act (g.paired _) (leaf t ∷ expr_of e ∷ []) = maybe_of (Some e)
-act (g.next_item _) (leaf t ∷ items_of es ∷ []) = items_of es
-act g.next_place (leaf t ∷ expr_of e ∷ exprs_of es ∷ []) = exprs_of (x.expression e es)
-act g.var_place (leaf t ∷ accesses_of es ∷ []) = expr_of (posted (x.var t.number t.line) es)
-act g.this_place (leaf t ∷ accesses_of es ∷ []) = expr_of (posted (x.var t.number t.line) es)
-act g.word_place (leaf t ∷ leaf u ∷ static_of f ∷ []) = expr_of (f t)
-act g.hint_word_place (leaf t ∷ leaf u ∷ static_of f ∷ []) = expr_of (f t)
-act g.static_named_place (leaf t ∷ leaf u ∷ static_of f ∷ []) = expr_of (f t)
-act g.array_named_place (leaf t ∷ leaf u ∷ static_of f ∷ []) = expr_of (f t)
-act g.this_step_place (leaf t ∷ accesses_of es ∷ []) = expr_of (posted (x.var t.number t.line) es)
-act g.var_static_place (leaf t ∷ accesses_of es ∷ []) = static_of (λ w. posted (x.static_property (class_name w) (member_name t) w.line) es)
-act g.this_static_place (leaf t ∷ accesses_of es ∷ []) = static_of (λ w. posted (x.static_property (class_name w) (member_name t) w.line) es)
-act g.place_index (leaf t ∷ expr_of e ∷ leaf u ∷ accesses_of es ∷ []) = accesses_of (x.index e es)
-act g.place_arrow (leaf t ∷ accesses_of es ∷ []) = accesses_of es
-act (g.place_named _) (leaf t ∷ accesses_of es ∷ []) = accesses_of (x.property (member_name t) es)
-act g.c_not_expr (leaf t ∷ expr_of e ∷ []) = expr_of (x.unary (unary_of t.detail) e t.line)
-act g.c_no_not (expr_of e ∷ []) = expr_of e
-act g.c_sign_expr (leaf t ∷ expr_of e ∷ []) = expr_of (x.unary (unary_of t.detail) e t.line)
-act g.c_no_sign (expr_of e ∷ []) = expr_of e
-act g.c_int (leaf t ∷ []) = expr_of (x.int t.int t.line)
-act g.c_text (leaf t ∷ []) = expr_of (x.text t.text t.line)
-act g.c_word (leaf t ∷ named_of f ∷ []) = expr_of (f t)
-act g.c_hint_word (leaf t ∷ named_of f ∷ []) = expr_of (f t)
-act g.c_static (leaf t ∷ leaf u ∷ named_of f ∷ []) = expr_of (f t)
-act g.c_array (leaf t ∷ named_of f ∷ []) = expr_of (f t)
-act g.c_bracket (leaf t ∷ items_of es ∷ leaf u ∷ []) = expr_of (x.array es t.line)
-act g.c_colons (leaf t ∷ named_of f ∷ []) = named_of f
-act g.c_class_form (leaf t ∷ []) = named_of (λ w. x.class_text (class_name w) w.line)
-act (g.c_named _) (leaf t ∷ []) = named_of (λ w. x.class_constant (class_name w) (member_name t) w.line)
-act g.c_array_items (leaf t ∷ items_of es ∷ leaf u ∷ []) = named_of (λ w. x.array es w.line)
-act g.c_array_name (leaf t ∷ named_of f ∷ []) = named_of f
-act g.begun_static (leaf t ∷ colons_of c ∷ []) = begun_of (λ w. named w c)
-act g.ternary (leaf t ∷ branch_of f ∷ branches_of bs ∷ []) = branches_of (f bs)
-act g.c_ternary (leaf t ∷ branch_of f ∷ branches_of bs ∷ []) = branches_of (f bs)
-act g.short_choice (leaf t ∷ expr_of e ∷ []) = branch_of (x.short e)
-act g.full_choice (expr_of e ∷ leaf t ∷ expr_of d ∷ []) = branch_of (x.full e d)
-act g.c_short_choice (leaf t ∷ expr_of e ∷ []) = branch_of (x.short e)
-act g.c_full_choice (expr_of e ∷ leaf t ∷ expr_of d ∷ []) = branch_of (x.full e d)
-act g.coalesced (leaf t ∷ expr_of e ∷ []) = step_of (λ h. x.coalesce h e (line_of h))
-act g.equality_step (leaf t ∷ expr_of e ∷ []) = step_of (λ h. x.compare h (compare_of t.detail) e (line_of h))
-act g.order_step (leaf t ∷ expr_of e ∷ []) = step_of (λ h. x.compare h (compare_of t.detail) e (line_of h))
-act g.instance_step (leaf t ∷ class_of n ∷ []) = step_of (λ h. x.instance_of h n (line_of h))
-act g.instance_step (leaf t ∷ var_of n ∷ []) = step_of (λ h. x.instance_of_var h n (line_of h))
-act g.or_step (leaf t ∷ expr_of e ∷ links_of ls ∷ []) = links_of (x.link (chain_of t.detail) e ls)
-act g.xor_step (leaf t ∷ expr_of e ∷ links_of ls ∷ []) = links_of (x.link (chain_of t.detail) e ls)
-act g.and_step (leaf t ∷ expr_of e ∷ links_of ls ∷ []) = links_of (x.link (chain_of t.detail) e ls)
-act g.either_step (leaf t ∷ expr_of e ∷ links_of ls ∷ []) = links_of (x.link (chain_of t.detail) e ls)
-act g.both_step (leaf t ∷ expr_of e ∷ links_of ls ∷ []) = links_of (x.link (chain_of t.detail) e ls)
-act g.sign_step (leaf t ∷ expr_of e ∷ links_of ls ∷ []) = links_of (x.link (chain_of t.detail) e ls)
-act g.dot_step (leaf t ∷ expr_of e ∷ links_of ls ∷ []) = links_of (x.link (chain_of t.detail) e ls)
-act g.product_step (leaf t ∷ expr_of e ∷ links_of ls ∷ []) = links_of (x.link (chain_of t.detail) e ls)
-act g.c_sign_step (leaf t ∷ expr_of e ∷ links_of ls ∷ []) = links_of (x.link (chain_of t.detail) e ls)
-act g.c_dot_step (leaf t ∷ expr_of e ∷ links_of ls ∷ []) = links_of (x.link (chain_of t.detail) e ls)
-act g.c_product_step (leaf t ∷ expr_of e ∷ links_of ls ∷ []) = links_of (x.link (chain_of t.detail) e ls)
+act g.whole (ss ∷ t ∷ []) = stmts_of (as_stmts ss)
+act g.some_stmts (s ∷ ss ∷ []) = stmts_of (y.statement (as_stmt s) (as_stmts ss))
+act g.inline_text (t ∷ []) = stmt_of (y.inline (as_token t).text (as_token t).line)
+act g.echo_tag (t ∷ e ∷ es ∷ u ∷ []) = stmt_of (y.echo (x.expression (as_expr e) (as_exprs es)) (as_token t).line)
+act g.echo_word (t ∷ e ∷ es ∷ u ∷ []) = stmt_of (y.echo (x.expression (as_expr e) (as_exprs es)) (as_token t).line)
+act g.empty_stmt (t ∷ []) = stmt_of (y.nothing (as_token t).line)
+act g.block (t ∷ ss ∷ u ∷ []) = stmt_of (y.block (as_stmts ss) (as_token t).line)
+act g.if_stmt (t ∷ u ∷ e ∷ v ∷ b ∷ []) = stmt_of (y.conditional (y.arm (as_expr e) (guarded_in b) (arms_in b)) (last_in b) (as_token t).line)
+act g.while_stmt (t ∷ u ∷ e ∷ v ∷ ss ∷ []) = stmt_of (y.while_loop (as_expr e) (as_stmts ss) (as_token t).line)
+act g.do_stmt (t ∷ s ∷ u ∷ v ∷ e ∷ w ∷ z ∷ []) = stmt_of (y.do_loop (one (as_stmt s)) (as_expr e) (as_token t).line)
+act g.for_stmt (t ∷ u ∷ a ∷ v ∷ b ∷ w ∷ c ∷ z ∷ ss ∷ []) = stmt_of (y.for_loop (as_exprs a) (as_exprs b) (as_exprs c) (as_stmts ss) (as_token t).line)
+act g.foreach_stmt (t ∷ u ∷ e ∷ v ∷ w ∷ second ∷ z ∷ ss ∷ []) = stmt_of (y.foreach (as_expr e) (key_of_each (as_token w).number (as_second second)) (value_of_each (as_token w).number (as_second second)) (as_stmts ss) (as_token t).line)
+act g.switch_stmt (t ∷ u ∷ e ∷ v ∷ arms ∷ []) = stmt_of (y.switch (as_expr e) (as_cases arms) (as_token t).line)
+act g.jump_stmt (t ∷ n ∷ u ∷ []) = stmt_of (jump (as_token t).detail (as_int n) (as_token t).line)
+act g.return_stmt (t ∷ e ∷ u ∷ []) = stmt_of (y.return (as_maybe e) (as_token t).line)
+act g.global_stmt (t ∷ u ∷ vs ∷ v ∷ []) = stmt_of (y.global ((as_token u).number ∷ (as_vars vs)) (as_token t).line)
+act g.static_stmt (t ∷ r ∷ []) = stmt_of (static_statement (as_token t).text (as_token t).line r)
+act g.unset_stmt (t ∷ u ∷ e ∷ es ∷ v ∷ w ∷ []) = stmt_of (y.unset (x.expression (as_expr e) (as_exprs es)) (as_token t).line)
+act g.throw_stmt (t ∷ e ∷ u ∷ []) = stmt_of (y.throw (as_expr e) (as_token t).line)
+act g.try_stmt (t ∷ u ∷ ss ∷ v ∷ cs ∷ []) = stmt_of (y.try (as_stmts ss) (as_clauses cs) (as_token t).line)
+act g.function_stmt (t ∷ name ∷ u ∷ ps ∷ v ∷ h ∷ w ∷ ss ∷ z ∷ []) = stmt_of (y.function (y.with_body (head_of (as_token name) (as_params ps) (as_hint h) (as_token t).line) (as_stmts ss) (span_of (as_token w) (as_token z))) (as_token t).line)
+act g.abstract_class (t ∷ u ∷ name ∷ p ∷ ns ∷ v ∷ ms ∷ w ∷ []) = stmt_of (y.class (y.with_members Abstract (class_name (as_token name)) (as_parent p) (as_names ns) (as_members ms) (as_token t).line) (as_token t).line)
+act g.final_class (t ∷ u ∷ name ∷ p ∷ ns ∷ v ∷ ms ∷ w ∷ []) = stmt_of (y.class (y.with_members Final (class_name (as_token name)) (as_parent p) (as_names ns) (as_members ms) (as_token t).line) (as_token t).line)
+act g.plain_class (t ∷ name ∷ p ∷ ns ∷ v ∷ ms ∷ w ∷ []) = stmt_of (y.class (y.with_members Plain (class_name (as_token name)) (as_parent p) (as_names ns) (as_members ms) (as_token t).line) (as_token t).line)
+act g.interface_stmt (t ∷ name ∷ ns ∷ v ∷ ms ∷ w ∷ []) = stmt_of (y.class (y.with_members Interface (class_name (as_token name)) None (as_names ns) (as_members ms) (as_token t).line) (as_token t).line)
+act g.const_stmt (t ∷ name ∷ u ∷ e ∷ cs ∷ v ∷ []) = stmt_of (y.constants ((const_name (as_token name), (as_expr e)) ∷ (as_constants cs)) (as_token t).line)
+act g.removed_stmt (t ∷ u ∷ kind ∷ v ∷ path ∷ name ∷ w ∷ z ∷ []) = stmt_of (y.removed (as_token kind).text (as_token path).text (as_text name) (as_token t).line)
+act g.expr_stmt (e ∷ t ∷ []) = stmt_of (y.evaluate (as_expr e) (line_of (as_expr e)))
+act g.if_listed (t ∷ ss ∷ r ∷ []) = if_parts (as_stmts ss) (arms_in r) (last_in r)
+act g.if_single (s ∷ r ∷ []) = if_parts (one (as_stmt s)) (arms_in r) (last_in r)
+act g.else_if (t ∷ u ∷ e ∷ v ∷ s ∷ r ∷ []) = if_parts y.no_more (y.arm (as_expr e) (one (as_stmt s)) (arms_in r)) (last_in r)
+act g.else_single (t ∷ s ∷ []) = if_parts y.no_more y.no_arms (one (as_stmt s))
+act g.else_if_listed (t ∷ u ∷ e ∷ v ∷ w ∷ ss ∷ r ∷ []) = if_parts y.no_more (y.arm (as_expr e) (as_stmts ss) (arms_in r)) (last_in r)
+act g.else_listed (t ∷ u ∷ ss ∷ v ∷ w ∷ []) = if_parts y.no_more y.no_arms (as_stmts ss)
+act g.end_if (t ∷ u ∷ []) = if_parts y.no_more y.no_arms y.no_more
+act g.while_listed (t ∷ ss ∷ u ∷ v ∷ []) = ss
+act g.for_listed (t ∷ ss ∷ u ∷ v ∷ []) = ss
+act g.foreach_listed (t ∷ ss ∷ u ∷ v ∷ []) = ss
+act g.body_single (s ∷ []) = stmts_of (one (as_stmt s))
+act g.switch_braced (t ∷ u ∷ arms ∷ v ∷ []) = arms
+act g.switch_listed (t ∷ u ∷ arms ∷ v ∷ w ∷ []) = arms
+act g.a_semi (t ∷ []) = unit_of
+act g.case_arm (t ∷ e ∷ u ∷ ss ∷ arms ∷ []) = cases_of (y.case (as_expr e) (as_stmts ss) (as_cases arms))
+act g.default_arm (t ∷ u ∷ ss ∷ arms ∷ []) = cases_of (y.default_case (as_stmts ss) (as_cases arms))
+act g.arm_colon (t ∷ []) = unit_of
+act g.arm_semi (t ∷ []) = unit_of
+act g.an_int (t ∷ []) = int_of (as_token t).int
+act g.an_expr (e ∷ []) = maybe_of (Some (as_expr e))
+act g.key_then_value (t ∷ u ∷ []) = second_of (Some (as_token u).number)
+act g.next_var (t ∷ u ∷ vs ∷ []) = vars_of ((as_token u).number ∷ (as_vars vs))
+act g.static_vars (t ∷ e ∷ vs ∷ u ∷ []) = statics_of (((as_token t).number, (as_maybe e)) ∷ (as_statics vs))
+act g.static_expr (b ∷ t ∷ []) = b
+act g.next_static (t ∷ u ∷ e ∷ vs ∷ []) = statics_of (((as_token u).number, (as_maybe e)) ∷ (as_statics vs))
+act g.a_default (t ∷ e ∷ []) = maybe_of (Some (as_expr e))
+act g.next_const (t ∷ name ∷ u ∷ e ∷ cs ∷ []) = constants_of ((const_name (as_token name), (as_expr e)) ∷ (as_constants cs))
+act g.next_text (t ∷ u ∷ []) = text_of (Some (as_token u).text)
+act g.a_catch (t ∷ u ∷ n ∷ ns ∷ v ∷ w ∷ z ∷ ss ∷ q ∷ cs ∷ []) = clauses_of (y.clause ((as_class n) ∷ (as_names ns)) (as_token v).number (as_stmts ss) (as_clauses cs))
+act g.next_caught (t ∷ n ∷ ns ∷ []) = names_of ((as_class n) ∷ (as_names ns))
+act g.some_params (p ∷ ps ∷ []) = params_of ((as_param p) ∷ (as_params ps))
+act g.next_param (t ∷ p ∷ ps ∷ []) = params_of ((as_param p) ∷ (as_params ps))
+act g.a_param (h ∷ by ∷ t ∷ e ∷ []) = param_of (parameter (as_hint h) (as_amp by) (as_token t) (as_maybe e))
+act g.an_amp (t ∷ []) = amp_of true
+act g.open_hint (t ∷ n ∷ []) = hint_of (Some (hint true (as_class n) (as_token t).line))
+act g.hint_word (t ∷ []) = class_of (class_name (as_token t))
+act g.hint_static (t ∷ []) = class_of (class_name (as_token t))
+act g.hint_array (t ∷ []) = class_of (class_name (as_token t))
+act g.plain_hint_word (t ∷ []) = hint_of (Some (hint false (class_name (as_token t)) (as_token t).line))
+act g.plain_hint_static (t ∷ []) = hint_of (Some (hint false (class_name (as_token t)) (as_token t).line))
+act g.plain_hint_array (t ∷ []) = hint_of (Some (hint false (class_name (as_token t)) (as_token t).line))
+act g.a_result (t ∷ r ∷ []) = r
+act g.a_plain_word (t ∷ []) = t
+act g.a_hint_word (t ∷ []) = t
+act g.class_word (t ∷ []) = class_of (class_name (as_token t))
+act g.class_hint_word (t ∷ []) = class_of (class_name (as_token t))
+act g.class_static (t ∷ []) = class_of (class_name (as_token t))
+act g.class_array (t ∷ []) = class_of (class_name (as_token t))
+act g.class_var (t ∷ []) = var_of (as_token t).number
+act g.class_this (t ∷ []) = var_of (as_token t).number
+act g.a_parent (t ∷ n ∷ []) = parent_of (Some (as_class n))
+act g.the_interfaces (t ∷ n ∷ ns ∷ []) = names_of ((as_class n) ∷ (as_names ns))
+act g.the_parents (t ∷ n ∷ ns ∷ []) = names_of ((as_class n) ∷ (as_names ns))
+act g.next_name (t ∷ n ∷ ns ∷ []) = names_of ((as_class n) ∷ (as_names ns))
+act (g.some_members _) (m ∷ ms ∷ []) = members_of (core_before (core_in m) (mods_in m) (line_in m) (as_members ms))
+act g.const_member (t ∷ name ∷ u ∷ e ∷ cs ∷ v ∷ []) = modded_of (as_token t).line no_modifiers (constants_core ((member_name (as_token name), as_expr e) ∷ as_class_constants cs))
+act g.next_class_const (t ∷ name ∷ u ∷ e ∷ cs ∷ []) = class_constants_of ((member_name (as_token name), (as_expr e)) ∷ (as_class_constants cs))
+act (g.function_member _) (t ∷ name ∷ u ∷ ps ∷ v ∷ h ∷ b ∷ []) = modded_of (as_token t).line no_modifiers (function_core (head_of (as_token name) (as_params ps) (as_hint h) (as_token t).line) (as_body b))
+act g.property_member (t ∷ e ∷ ps ∷ u ∷ []) = modded_of (as_token t).line no_modifiers (properties_core ((member_name (as_token t), as_maybe e) ∷ as_properties ps))
+act g.this_member (t ∷ e ∷ ps ∷ u ∷ []) = modded_of (as_token t).line no_modifiers (properties_core ((member_name (as_token t), as_maybe e) ∷ as_properties ps))
+act g.next_property (t ∷ name ∷ e ∷ ps ∷ []) = properties_of ((member_name (as_token name), (as_maybe e)) ∷ (as_properties ps))
+act g.plain_var (t ∷ []) = t
+act g.this_var (t ∷ []) = t
+act (g.visible_mod _ _ _ _ _) (t ∷ m ∷ []) = modded_of (as_token t).line (record (mods_in m) { visibility = visibility_of (as_token t).detail }) (core_in m)
+act (g.static_mod _ _ _ _ _) (t ∷ m ∷ []) = modded_of (as_token t).line (record (mods_in m) { is_static = true }) (core_in m)
+act (g.abstract_mod _ _ _ _ _) (t ∷ m ∷ []) = modded_of (as_token t).line (record (mods_in m) { is_abstract = true }) (core_in m)
+act (g.final_mod _ _ _ _ _) (t ∷ m ∷ []) = modded_of (as_token t).line (record (mods_in m) { is_final = true }) (core_in m)
+act (g.var_mod _ _ _ _ _) (t ∷ m ∷ []) = modded_of (as_token t).line (record (mods_in m) { is_var = true }) (core_in m)
+act g.with_body (t ∷ ss ∷ u ∷ []) = body_of (Some ((as_stmts ss), span_of (as_token t) (as_token u)))
+act g.without_body (t ∷ []) = body_of None
+act (g.named_word _) (t ∷ []) = t
+act g.print_expr (t ∷ e ∷ []) = expr_of (x.print (as_expr e) (as_token t).line)
+act g.no_print (e ∷ []) = e
+act g.not_expr (t ∷ e ∷ []) = expr_of (x.unary (unary_of (as_token t).detail) (as_expr e) (as_token t).line)
+act g.no_not (e ∷ []) = e
+act g.sign_expr (t ∷ e ∷ []) = expr_of (x.unary (unary_of (as_token t).detail) (as_expr e) (as_token t).line)
+act g.prefix_expr (t ∷ e ∷ []) = expr_of (x.unary (unary_of (as_token t).detail) (as_expr e) (as_token t).line)
+act g.step_before (t ∷ e ∷ []) = expr_of (x.step (before_of (as_token t).detail) (as_expr e) (as_token t).line)
+act g.no_unary (e ∷ []) = e
+act (g.int_prim _) (t ∷ r ∷ []) = expr_of (finished (given (x.int (as_token t).int (as_token t).line)) (as_tail r))
+act (g.text_prim _) (t ∷ r ∷ []) = expr_of (finished (given (x.text (as_token t).text (as_token t).line)) (as_tail r))
+act (g.quote_prim _) (t ∷ r ∷ []) = expr_of (finished (given (x.quote (filled (as_token t).parts x.no_more) (as_token t).line)) (as_tail r))
+act (g.embedding_prim _) (t ∷ e ∷ es ∷ r ∷ []) = expr_of (finished (given (x.quote (filled (as_token t).parts (x.expression (as_expr e) (as_exprs es))) (as_token t).line)) (as_tail r))
+act g.quote_next (t ∷ e ∷ es ∷ []) = exprs_of (x.expression (as_expr e) (as_exprs es))
+act g.quote_end (t ∷ []) = exprs_of x.no_more
+act (g.var_prim _) (t ∷ r ∷ []) = expr_of (finished (variable (as_token t).number (as_token t).line) (as_tail r))
+act (g.this_prim _) (t ∷ r ∷ []) = expr_of (finished (variable (as_token t).number (as_token t).line) (as_tail r))
+act (g.word_prim _) (t ∷ r ∷ []) = expr_of (finished (word (as_token t).text (as_token t).line) (as_tail r))
+act (g.hint_word_prim _) (t ∷ r ∷ []) = expr_of (finished (word (as_token t).text (as_token t).line) (as_tail r))
+act (g.static_prim _) (t ∷ u ∷ c ∷ []) = expr_of (named (as_token t).text (as_token t).line (as_tail c))
+act (g.array_prim _) (t ∷ r ∷ []) = expr_of (array_or_name (as_token t).text (as_token t).line r)
+act (g.array_items _) (t ∷ es ∷ u ∷ r ∷ []) = array_of (Some (as_items es)) (as_tail r)
+act (g.array_name _) (t ∷ c ∷ []) = array_of None (as_tail c)
+act (g.bracket_prim _) (t ∷ es ∷ u ∷ r ∷ []) = expr_of (finished (given (x.array (as_items es) (as_token t).line)) (as_tail r))
+act (g.paren_prim _) (t ∷ e ∷ u ∷ r ∷ []) = expr_of (finished (given (x.paren (as_expr e) (as_token t).line)) (as_tail r))
+act (g.isset_prim _) (t ∷ u ∷ e ∷ es ∷ v ∷ r ∷ []) = expr_of (finished (given (x.isset (x.expression (as_expr e) (as_exprs es)) (as_token t).line)) (as_tail r))
+act (g.empty_prim _) (t ∷ u ∷ e ∷ v ∷ r ∷ []) = expr_of (finished (given (x.is_empty (as_expr e) (as_token t).line)) (as_tail r))
+act (g.exit_prim _) (t ∷ r ∷ []) = expr_of (finished (given (x.exit (as_token t).line)) (as_tail r))
+act (g.new_prim _) (t ∷ n ∷ r ∷ []) = expr_of (finished (new_in n (as_token t).line) (as_tail r))
+act g.clone_prim (t ∷ e ∷ []) = expr_of (x.cloned (as_expr e) (as_token t).line)
+act g.include_prim (t ∷ e ∷ []) = expr_of (x.included (include_of (as_token t).detail) (as_expr e) (as_token t).line)
+act (g.static_property _) (t ∷ r ∷ []) = tail_of (record (as_tail r) { first = at_property (member_name (as_token t)) })
+act (g.static_property_this _) (t ∷ r ∷ []) = tail_of (record (as_tail r) { first = at_property (member_name (as_token t)) })
+act (g.class_form _) (t ∷ r ∷ []) = tail_of (record (as_tail r) { first = at_class })
+act (g.static_member _ _) (t ∷ r ∷ []) = tail_of (record (as_tail r) { first = member_first (member_name (as_token t)) (as_tail r).first })
+act (g.open_index _ _) (t ∷ r ∷ []) = r
+act (g.arrow _ _) (t ∷ r ∷ []) = r
+act (g.call_args _) (t ∷ es ∷ u ∷ r ∷ []) = tail_of (record (as_tail r) { first = arguments (as_exprs es) })
+act (g.exit_args _) (t ∷ e ∷ u ∷ r ∷ []) = tail_of (record (as_tail r) { first = given_to (as_maybe e) })
+act (g.colons _) (t ∷ r ∷ []) = r
+act g.assign_var (t ∷ e ∷ []) = tail_of (ends (as_ending e))
+act g.assign_place (t ∷ e ∷ []) = tail_of (ends (sets (assign_of (as_token t).detail) (as_expr e)))
+act g.assign_op (t ∷ e ∷ []) = tail_of (ends (sets (assign_of (as_token t).detail) (as_expr e)))
+act g.step_after (t ∷ []) = tail_of (ends (steps_by (after_of (as_token t).detail)))
+act g.appended (t ∷ e ∷ []) = tail_of (record { first = nothing; accesses = x.append x.no_accesses; ending = as_ending e })
+act (g.at_index_place _) (e ∷ t ∷ r ∷ []) = tail_of (indexed (as_expr e) (as_tail r))
+act (g.at_index_other _) (e ∷ t ∷ r ∷ []) = tail_of (indexed (as_expr e) (as_tail r))
+act g.only_assign (t ∷ e ∷ []) = ending_of (sets (assign_of (as_token t).detail) (as_expr e))
+act g.only_assign_op (t ∷ e ∷ []) = ending_of (sets (assign_of (as_token t).detail) (as_expr e))
+act g.reference (t ∷ u ∷ []) = ending_of (refers (as_token u).number)
+act g.a_value (e ∷ []) = ending_of (sets Set (as_expr e))
+act (g.place_member _ _) (t ∷ r ∷ []) = tail_of (accessed (as_token t) (as_tail r))
+act (g.other_member _ _) (t ∷ r ∷ []) = tail_of (accessed (as_token t) (as_tail r))
+act g.some_args (e ∷ es ∷ []) = exprs_of (x.expression (as_expr e) (as_exprs es))
+act g.next_arg (t ∷ e ∷ es ∷ []) = exprs_of (x.expression (as_expr e) (as_exprs es))
+act (g.some_items _) (e ∷ d ∷ es ∷ []) = items_of (an_item (as_expr e) (as_maybe d) (as_items es))
+act g.item_full (e ∷ []) = e
+act g.item_const (e ∷ []) = e
+act (g.paired _) (t ∷ e ∷ []) = maybe_of (Some (as_expr e))
+act (g.next_item _) (t ∷ r ∷ []) = r
+act g.next_place (t ∷ e ∷ es ∷ []) = exprs_of (x.expression (as_expr e) (as_exprs es))
+act g.var_place (t ∷ es ∷ []) = expr_of (posted (x.var (as_token t).number (as_token t).line) (as_accesses es))
+act g.this_place (t ∷ es ∷ []) = expr_of (posted (x.var (as_token t).number (as_token t).line) (as_accesses es))
+act g.word_place (t ∷ u ∷ r ∷ []) = expr_of (static_in (as_token t).text (as_token t).line r)
+act g.hint_word_place (t ∷ u ∷ r ∷ []) = expr_of (static_in (as_token t).text (as_token t).line r)
+act g.static_named_place (t ∷ u ∷ r ∷ []) = expr_of (static_in (as_token t).text (as_token t).line r)
+act g.array_named_place (t ∷ u ∷ r ∷ []) = expr_of (static_in (as_token t).text (as_token t).line r)
+act g.this_step_place (t ∷ es ∷ []) = expr_of (posted (x.var (as_token t).number (as_token t).line) (as_accesses es))
+act g.var_static_place (t ∷ es ∷ []) = static_of (member_name (as_token t)) (as_accesses es)
+act g.this_static_place (t ∷ es ∷ []) = static_of (member_name (as_token t)) (as_accesses es)
+act g.place_index (t ∷ e ∷ u ∷ es ∷ []) = accesses_of (x.index (as_expr e) (as_accesses es))
+act g.place_arrow (t ∷ r ∷ []) = r
+act (g.place_named _) (t ∷ es ∷ []) = accesses_of (x.property (member_name (as_token t)) (as_accesses es))
+act g.c_not_expr (t ∷ e ∷ []) = expr_of (x.unary (unary_of (as_token t).detail) (as_expr e) (as_token t).line)
+act g.c_no_not (e ∷ []) = e
+act g.c_sign_expr (t ∷ e ∷ []) = expr_of (x.unary (unary_of (as_token t).detail) (as_expr e) (as_token t).line)
+act g.c_no_sign (e ∷ []) = e
+act g.c_int (t ∷ []) = expr_of (x.int (as_token t).int (as_token t).line)
+act g.c_text (t ∷ []) = expr_of (x.text (as_token t).text (as_token t).line)
+act g.c_word (t ∷ r ∷ []) = expr_of (const_named (as_token t).text (as_token t).line (as_named r))
+act g.c_hint_word (t ∷ r ∷ []) = expr_of (const_named (as_token t).text (as_token t).line (as_named r))
+act g.c_static (t ∷ u ∷ r ∷ []) = expr_of (const_named (as_token t).text (as_token t).line (as_named r))
+act g.c_array (t ∷ r ∷ []) = expr_of (const_named (as_token t).text (as_token t).line (as_named r))
+act g.c_bracket (t ∷ es ∷ u ∷ []) = expr_of (x.array (as_items es) (as_token t).line)
+act g.c_colons (t ∷ r ∷ []) = r
+act g.c_class_form (t ∷ []) = named_of class_form
+act (g.c_named _) (t ∷ []) = named_of (class_member (member_name (as_token t)))
+act g.c_array_items (t ∷ es ∷ u ∷ []) = named_of (array_of_items (as_items es))
+act g.c_array_name (t ∷ r ∷ []) = r
+act g.begun_static (t ∷ c ∷ []) = begun_of (as_tail c) []
+act g.ternary (t ∷ b ∷ bs ∷ []) = branches_of (branch_before (as_branch b) (as_branches bs))
+act g.c_ternary (t ∷ b ∷ bs ∷ []) = branches_of (branch_before (as_branch b) (as_branches bs))
+act g.short_choice (t ∷ e ∷ []) = branch_of (short_branch (as_expr e))
+act g.full_choice (e ∷ t ∷ d ∷ []) = branch_of (whole_branch (as_expr e) (as_expr d))
+act g.c_short_choice (t ∷ e ∷ []) = branch_of (short_branch (as_expr e))
+act g.c_full_choice (e ∷ t ∷ d ∷ []) = branch_of (whole_branch (as_expr e) (as_expr d))
+act g.coalesced (t ∷ e ∷ []) = step_of (coalesces (as_expr e))
+act g.equality_step (t ∷ e ∷ []) = step_of (compares (compare_of (as_token t).detail) (as_expr e))
+act g.order_step (t ∷ e ∷ []) = step_of (compares (compare_of (as_token t).detail) (as_expr e))
+act g.instance_step (t ∷ n ∷ []) = step_of (instance_in n)
+act g.or_step (t ∷ e ∷ ls ∷ []) = links_of (x.link (chain_of (as_token t).detail) (as_expr e) (as_links ls))
+act g.xor_step (t ∷ e ∷ ls ∷ []) = links_of (x.link (chain_of (as_token t).detail) (as_expr e) (as_links ls))
+act g.and_step (t ∷ e ∷ ls ∷ []) = links_of (x.link (chain_of (as_token t).detail) (as_expr e) (as_links ls))
+act g.either_step (t ∷ e ∷ ls ∷ []) = links_of (x.link (chain_of (as_token t).detail) (as_expr e) (as_links ls))
+act g.both_step (t ∷ e ∷ ls ∷ []) = links_of (x.link (chain_of (as_token t).detail) (as_expr e) (as_links ls))
+act g.sign_step (t ∷ e ∷ ls ∷ []) = links_of (x.link (chain_of (as_token t).detail) (as_expr e) (as_links ls))
+act g.dot_step (t ∷ e ∷ ls ∷ []) = links_of (x.link (chain_of (as_token t).detail) (as_expr e) (as_links ls))
+act g.product_step (t ∷ e ∷ ls ∷ []) = links_of (x.link (chain_of (as_token t).detail) (as_expr e) (as_links ls))
+act g.c_sign_step (t ∷ e ∷ ls ∷ []) = links_of (x.link (chain_of (as_token t).detail) (as_expr e) (as_links ls))
+act g.c_dot_step (t ∷ e ∷ ls ∷ []) = links_of (x.link (chain_of (as_token t).detail) (as_expr e) (as_links ls))
+act g.c_product_step (t ∷ e ∷ ls ∷ []) = links_of (x.link (chain_of (as_token t).detail) (as_expr e) (as_links ls))
 act _ _ = unit_of
 
--- ---- operators
-
-abbrev pub joined : Expression ℕ → Value → Expression ℕ
-joined e (links_of ls) = x.chain e ls (line_of e)
-joined e (branches_of bs) = x.choice e bs (line_of e)
-joined e (step_of f) = f e
-joined e _ = e
-
 -- a first operand with what its level goes on with: one node
-unfoldable pub link : Value → Value → Value
-link (expr_of e) v = expr_of (joined e v)
-link (begun_of f) v = begun_of (λ t. joined (f t) v)
+abbrev pub link : Value → Value → Value
+link (expr_of e) v = expr_of (joined e (as_join v))
+link (begun_of r js) v = begun_of r (js ++ as_join v ∷ [])
 link _ _ = unit_of

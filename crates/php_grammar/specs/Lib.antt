@@ -6,3 +6,5 @@ pub mod Act
 pub mod Reads
 pub mod Run
 pub mod Place
+pub mod Split
+pub mod Reach

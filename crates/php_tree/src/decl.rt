@@ -23,6 +23,7 @@ pub struct Param {
     /// The variable's number in the file's list of names.
     pub variable: u32,
     pub default: Option<Boxed<Expr>>,
+    /// The line of its variable, from 1.
     pub line: u32,
 }
 

@@ -12,6 +12,8 @@ pub struct VarName {
 #[derive(Debug, Drop)]
 pub struct FunName {
     pub text: Items<u8>,
+    /// The line of the name itself, from 1.
+    pub line: u32,
 }
 
 /// The name of a constant, told apart by case but for `true`, `false` and `null`.
@@ -24,10 +26,14 @@ pub struct ConstName {
 #[derive(Debug, Drop)]
 pub struct ClassName {
     pub text: Items<u8>,
+    /// The line of the name itself, from 1.
+    pub line: u32,
 }
 
 /// The name of a property (without a `$`), a method or a class constant.
 #[derive(Debug, Drop)]
 pub struct MemberName {
     pub text: Items<u8>,
+    /// The line of the name itself, from 1.
+    pub line: u32,
 }

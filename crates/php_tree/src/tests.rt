@@ -22,9 +22,11 @@ fn post(alloc: Global, head: Expr, access: Access<Expr>) -> Result<Expr, AllocEr
 fn static_property(alloc: Global) -> Result<Expr, AllocError> {
     let class = ClassName {
         text: text(alloc, b"A")?,
+        line: 4,
     };
     let member = MemberName {
         text: text(alloc, b"x")?,
+        line: 4,
     };
     Ok(Expr::StaticProperty(class, member, 4))
 }
@@ -34,6 +36,7 @@ fn a_place_is_a_root_with_indexes_and_properties(rt: HostRuntime) -> Result<(), 
     let alloc = rt.alloc();
     let name = MemberName {
         text: text(alloc, b"b")?,
+        line: 4,
     };
     assert!(rt; Expr::Var(0, 3).is_place());
     assert!(rt; static_property(alloc)?.is_place());
@@ -56,6 +59,7 @@ fn a_call_of_a_method_is_no_place(rt: HostRuntime) -> Result<(), Fail> {
     let alloc = rt.alloc();
     let name = MemberName {
         text: text(alloc, b"m")?,
+        line: 4,
     };
     let method = Access::Method(name, Items::new(alloc));
     assert!(rt; !post(alloc, Expr::Var(0, 3), method)?.is_place());
@@ -67,6 +71,7 @@ fn an_index_of_a_call_is_no_place(rt: HostRuntime) -> Result<(), Fail> {
     let alloc = rt.alloc();
     let name = FunName {
         text: text(alloc, b"f")?,
+        line: 4,
     };
     let call = Expr::Call(name, Items::new(alloc), 5);
     let last = Access::Index(Expr::Int(2, 5));

@@ -1,5 +1,5 @@
 -- The data of values, variant by variant, and of pairs.
-use Rattle.std.proofs.Common.{rules, ◌≡◌, ℕ, ℤ, Bool, true, false, not, List, [], ◌∷◌, refl, sym, ap, ◌∙◌, map, length, nat_eq, arith, zero, suc, ◌+◌, ◌++◌, drop, slice_get, Option, Some, None, option_map, IsSome, is_some, Ok, Err, Bor, nat_le, if◌then◌else◌, ◌<◌, ◌≤◌}
+use Rattle.std.proofs.Common.{rules, ◌≡◌, ℕ, Bool, true, false, not, List, [], ◌∷◌, refl, sym, ap, ◌∙◌, map, length, nat_eq, arith, zero, suc, ◌+◌, ◌++◌, drop, slice_get, Option, Some, None, option_map, IsSome, is_some, Ok, Err, Bor, nat_le, if◌then◌else◌, ◌<◌, ◌≤◌}
 use Rattle.std.specs.Option.{option_copied}
 use Rattle.std.proofs.lemmas.Bool.Decides.{nat_tests}
 use Rattle.php_values.specs.declared.fault.ValueFault.TheVariants.{Size}
@@ -12,7 +12,7 @@ use Rattle.php_values.specs.declared.value.Value.{Value, fold-roll-Value}
 use Rattle.php_values.specs.declared.value.ArrayValue.{ArrayValue, fold_out-ArrayValue}
 use Rattle.php_values.specs.declared.value.Value.TheVariants as kind
 use Rattle.php_values.specs.declared.value.Value.TheOpen.{Value-F}
-use Rattle.php_values.specs.Data.{Data, null, truth, int, bytes, array, object, ArrayData, Pairs, no_pairs, pair, of_pairs, data_of, array_of, map_data, pairs_data, data_step, array_step, data_pairs}
+use Rattle.php_values.specs.Data.{Data, array, ArrayData, pair, of_pairs, data_of, array_of, map_data, pairs_data, data_step, array_step, data_pairs}
 use Rattle.php_values.specs.Data.{count_of}
 use Rattle.php_values.specs.Convert.{has_pairs}
 use Rattle.php_values.specs.Compare.{value_of}

@@ -1,8 +1,7 @@
 -- Numbers of 64 bits.
-use Rattle.std.proofs.Common.{◌≡◌, ◌∙◌, ℕ, ℤ, pos, negsuc, zero, suc, ◌<◌, ◌^◌, ◌-ℤ◌, ◌/◌, ◌%◌, Bool, true, false, Ok, Err, ap, refl, sym, arith, w64, FitsSigned, nat_lt, if◌then◌else◌}
+use Rattle.std.proofs.Common.{◌≡◌, ◌∙◌, ℕ, ℤ, pos, negsuc, ◌<◌, ◌^◌, Bool, true, false, Ok, Err, ap, refl, sym, arith, w64, FitsSigned, nat_lt, if◌then◌else◌}
 use Rattle.std.proofs.lemmas.Bool.Decides.{nat_tests}
-use Rattle.std.specs.Int.RustNames.{int_div, int_rem}
-use Rattle.php_values.specs.declared.value.Value.{Value, fold-roll-Value}
+use Rattle.php_values.specs.declared.value.Value.{fold-roll-Value}
 use Rattle.php_values.specs.declared.value.Value.TheVariants as kind
 use Rattle.php_values.specs.declared.value.Value.TheOpen.{Value-F}
 use Rattle.php_values.specs.declared.fault.ValueFault.TheVariants.{Float}

@@ -1,5 +1,5 @@
 -- Comparisons: `==`, `<=>` and `===`.
-use Rattle.std.specs.Prelude.{List, [], ◌∷◌, length, ℕ, ℤ, Bool, true, false, not, ◌&&◌, ◌||◌, ◌==◌, if◌then◌else◌}
+use Rattle.std.specs.Prelude.{List, [], length, ℕ, ℤ, Bool, true, false, not, ◌&&◌, ◌==◌, if◌then◌else◌}
 use Rattle.std.specs.declared.option.Option.{Option}
 use Rattle.std.specs.declared.option.Option.TheVariants.{Some, None}
 pub use Rattle.std.specs.declared.result.Result.TheVariants.{Ok, Err}

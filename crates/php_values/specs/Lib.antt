@@ -3,3 +3,9 @@ pub mod Answers
 pub mod Convert
 pub mod Compare
 pub mod Arithmetic
+pub mod Looking
+pub mod Walks
+pub mod Beside
+pub mod Meeting
+pub mod Ranking
+pub mod Identity

@@ -8,6 +8,7 @@ ghost use Rattle.php_values.specs.Convert as spec;
 
 use crate::fault::ValueFault;
 use crate::number::{Number, leading_number, normal_number};
+use crate::seen::text_truth;
 use crate::value::Value;
 use order_map::{ByteText, Key};
 use std::alloc::Global;
@@ -20,25 +21,14 @@ pub fn truth(value: &Value) -> bool
         Value::Null => false,
         Value::Bool(b) => *b,
         Value::Int(n) => *n != 0,
-        Value::Bytes(text) => text_truth(text),
+        Value::Bytes(text) => text_truth(text.as_slice()),
         Value::List(array) => array.has_pairs(),
         Value::Object(_) => true,
     }
 }
 
-// Whether a text is neither empty nor `0`.
-fn text_truth(text: &ByteText) -> bool
-    ensures { result ≡ spec.text_truth text.now }
-{
-    match text.as_slice() {
-        [] => false,
-        [b] => *b != b'0',
-        _ => true,
-    }
-}
-
 pub(crate) fn number_or_zero(number: Number) -> Result<i64, ValueFault>
-    ensures { Gives (spec.number_or_zero number) result }
+    ensures { result ≡ spec.number_or_zero number }
 {
     match number {
         Number::Missing => Ok(0),
@@ -47,22 +37,22 @@ pub(crate) fn number_or_zero(number: Number) -> Result<i64, ValueFault>
     }
 }
 
-pub(crate) fn zero_or_one(b: bool) -> Result<i64, ValueFault>
-    ensures { Gives (spec.Ok (spec.zero_or_one b)) result }
+pub(crate) fn zero_or_one(b: bool) -> i64
+    ensures { result ≡ spec.zero_or_one b }
 {
-    if b { Ok(1) } else { Ok(0) }
+    if b { 1 } else { 0 }
 }
 
 /// The number of a value. It takes no memory.
 pub fn to_int(value: &Value) -> Result<i64, ValueFault>
-    ensures { Gives (spec.int_of (data_of value.now)) result }
+    ensures { result ≡ spec.int_of (data_of value.now) }
 {
     match value {
         Value::Null => Ok(0),
-        Value::Bool(b) => zero_or_one(*b),
+        Value::Bool(b) => Ok(zero_or_one(*b)),
         Value::Int(n) => Ok(*n),
         Value::Bytes(text) => number_or_zero(leading_number(text.as_slice())),
-        Value::List(array) => zero_or_one(array.has_pairs()),
+        Value::List(array) => Ok(zero_or_one(array.has_pairs())),
         Value::Object(_) => Err(ValueFault::Kind),
     }
 }

@@ -2,7 +2,7 @@
 
 ghost use Rattle.std.specs.Prelude.{◌≡◌, ◌+ℤ◌, ◌-ℤ◌, ◌*ℤ◌};
 ghost use Rattle.php_values.specs.Data.{data_of};
-ghost use Rattle.php_values.specs.Answers.{Gives, GivesData};
+ghost use Rattle.php_values.specs.Answers.{GivesData};
 ghost use Rattle.php_values.specs.Arithmetic as spec;
 
 use crate::convert::{number_or_zero, to_text, zero_or_one};
@@ -17,11 +17,11 @@ const MAX_TEXT_BYTES: usize = 1 << 20;
 
 // The number of an operand.
 fn operand(value: &Value) -> Result<i64, ValueFault>
-    ensures { Gives (spec.operand (data_of value.now)) result }
+    ensures { result ≡ spec.operand (data_of value.now) }
 {
     match value {
         Value::Null => Ok(0),
-        Value::Bool(b) => zero_or_one(*b),
+        Value::Bool(b) => Ok(zero_or_one(*b)),
         Value::Int(n) => Ok(*n),
         Value::Bytes(text) => number_or_zero(leading_number(text.as_slice())),
         Value::List(_) => Err(ValueFault::Kind),

@@ -2,9 +2,10 @@
 
 ghost use Rattle.std.specs.Prelude.{◌≡◌, IfOk};
 ghost use Rattle.order_map.specs.Arrays.{pairs_of};
-ghost use Rattle.php_values.specs.Convert.{has_pairs};
+ghost use Rattle.php_values.specs.Convert as spec;
 ghost use Rattle.php_values.specs.Data.{data_of, array_of, data_pairs};
 
+use crate::parts::take_apart;
 use order_map::{ByteText, OrderMap};
 use std::alloc::{AllocError, Global};
 use std::rc::Rc;
@@ -22,10 +23,26 @@ pub enum Value {
 }
 
 /// An array, shared by its copies until one of them is written.
-#[derive(Drop)]
 #[cycle(value)]
 pub struct ArrayValue {
     pub map: Rc<OrderMap<Value>>,
+}
+
+// A drop of its own: a derived one would call itself once for each level of nesting.
+impl Drop for ArrayValue {
+    fn drop(self) {
+        if let Some(map) = self.into_own() {
+            take_apart(map);
+        }
+    }
+}
+
+impl ArrayValue {
+    /// The map, where no copy shares it.
+    pub(crate) fn into_own(self) -> Option<OrderMap<Value>> {
+        let ArrayValue { map } = self;
+        Rc::into_inner(map)
+    }
 }
 
 impl ArrayValue {
@@ -41,10 +58,17 @@ impl ArrayValue {
 impl ArrayValue {
     /// Whether there is a pair.
     pub fn has_pairs(&self) -> bool
-        ensures { result ≡ has_pairs (data_pairs (pairs_of self.now.map.value)) }
+        ensures { result ≡ spec.has_pairs (data_pairs (pairs_of self.now.map.value)) }
     {
-        self.map.as_ref().len() != 0
+        has_pairs(self.map.as_ref())
     }
+}
+
+// Whether a map has a pair.
+pub(crate) fn has_pairs(map: &OrderMap<Value>) -> bool
+    ensures { result ≡ spec.has_pairs (data_pairs (pairs_of map.now)) }
+{
+    map.len() != 0
 }
 
 impl Clone for Value {

@@ -1,6 +1,9 @@
+pub mod Edits
 pub mod NameLemmas
 pub mod Places
 pub mod RowLemmas
 pub mod TableLemmas
 pub mod TotalLemmas
+pub mod UndoLemmas
+pub mod UndoOf
 pub mod ViewLemmas

@@ -10,6 +10,7 @@ use Rattle.std.specs.Cmp.Lexicographic.{nat_list_cmp_total, texts_ties}
 use Rattle.std.proofs.lemmas.Bool.{cases_lt, cases_eq}
 use Rattle.std.proofs.lemmas.Cmp.{tied_itself}
 use Rattle.std.proofs.lemmas.List.Sorted.{IsPermutation-insert, sum_by-IsPermutation}
+use Rattle.std.proofs.lemmas.List.Quantifiers.{position-Some}
 use Rattle.std.proofs.lemmas.List.{length-map, length-set, get_or-map, get_or-set_same, get_or-set_other, get_or_default}
 use Rattle.std.proofs.lemmas.List.Sums.{prefix_len_passes, prefix_len_stops, prefix_len-le-length, sum_by-set, sum_by-cons}
 use Rattle.std.proofs.lemmas.Slice.Eq.{bytes_eq-Decides}
@@ -185,3 +186,6 @@ tables_insert tables new rows size rows' size' old absent count total =
       counted = omega (arith, old.counted, rows_moved, rows_more);
       sized = omega (arith, old.sized, size_moved, size_more);
     }
+
+pub table_place_within : (name : List ℕ) (tables : List TableData) (place : ℕ) → table_place name tables ≡ Some place → place < length tables
+table_place_within name tables place found = (position-Some (λ (table : TableData). bytes_eq table.name name) tables place no_table found).0

@@ -1,5 +1,6 @@
 -- Rows in the order of their ids.
-use Rattle.std.proofs.Common.{◌≡◌, ◌≢◌, ℕ, negsuc, ◌+◌, ◌-◌, ◌<◌, ◌≤◌, Bool, true, false, Some, None, List, ◌∷◌, length, get_or, ltb, eqb, take, drop, ℤ, pos, Option, subst, arith, inl, inr}
+use Rattle.std.proofs.Common.{◌≡◌, ◌≢◌, ℕ, negsuc, ◌+◌, ◌-◌, ◌<◌, ◌≤◌, Bool, true, false, Some, None, List, ◌∷◌, length, get_or, ltb, eqb, take, drop, ℤ, pos, Option, max, ap, sym, ◌∙◌, subst, arith, inl, inr}
+use Rattle.std.specs.Prelude.{IfSome}
 use Rattle.std.specs.List.{position, prefix_len, AllPairs, All}
 use Rattle.std.specs.List.Sorted.{IsPartitionPoint, IsNonDecreasingBy}
 use Rattle.std.proofs.lemmas.Bool.{cases_lt}
@@ -12,7 +13,10 @@ use Rattle.std.proofs.lemmas.List.Elements.{All-append, All-cons, All-take, All-
 use lib.Signed.{lt_z}
 use Rattle.std.specs.Int.RustNames.{unsigned_abs}
 use Rattle.tables_keeper.specs.declared.table.Row.{Row}
-use Rattle.tables_keeper.specs.TableData.{HasRisingIds, rows_before, no_row, row_place, IsGiven, IsTable}
+use Rattle.std.proofs.lemmas.List.Quantifiers.{position-Some}
+use Rattle.tables_keeper.specs.declared.cell.Column.{Column}
+use Rattle.tables_keeper.specs.Tables.{IsId}
+use Rattle.tables_keeper.specs.TableData.{TableData, with_put, put_in, with_cells, with_row_at, with_raised, HasRisingIds, rows_before, no_row, row_place, IsGiven, IsTable}
 use Rattle.tables_keeper.proofs.Places.{position_is, position_missing, position_none}
 
 pub in_order : (rows : List Row) → HasRisingIds rows → IsNonDecreasingBy (λ row. row.id) rows
@@ -110,3 +114,31 @@ table_insert top rows row table one absent = record {
   given = given_insert top (rows_before row.id rows) rows row table.given one;
   small = table.small;
 }
+
+-- the id of a row that is there has been given
+pub given_id : (z : ℤ) (top place : ℕ) (rows : List Row) → IsTable top rows → row_place z rows ≡ Some place → IsId z
+given_id (pos id) top place rows table found =
+    let at = position-Some (λ row. eqb row.id id) rows place no_row found in
+    let given = table.given place no_row at.0 in
+    let same : eqb (get_or rows place no_row).id id ≡ true = at.1 in
+    grind (arith, nat_tests, given.positive)
+given_id (negsuc id) top place rows table found = absurd (cc)
+
+pub if_given : (z : ℤ) (top : ℕ) (rows : List Row) (r : Option ℕ) → IsTable top rows → r ≡ row_place z rows → IfSome r (λ _. IsId z)
+if_given z top rows None table is = tt
+if_given z top rows (Some place) table is = given_id z top place rows table (sym is)
+
+-- cells put at the id of a row that is there
+pub put_found : (id place : ℕ) (cells : List Column) (table : TableData) → row_place (pos id) table.rows ≡ Some place → IsTable table.top table.rows → with_put id cells table ≡ with_cells place cells table
+put_found id place cells table found held =
+    let at = position-Some (λ row. eqb row.id id) table.rows place no_row found in
+    let given = held.given place no_row at.0 in
+    let same : eqb (get_or table.rows place no_row).id id ≡ true = at.1 in
+    let low : id ≤ table.top = grind (arith, nat_tests, given.within) in
+    let top : max table.top id ≡ table.top = omega arith in
+    ap (λ r. put_in r id cells (with_raised id table)) found
+    ∙ ap (λ n. with_cells place cells (record { name = table.name; top = n; rows = table.rows })) top
+
+-- and at an id that no row has
+pub put_missing : (id : ℕ) (cells : List Column) (table : TableData) → row_place (pos id) table.rows ≡ None → with_put id cells table ≡ with_row_at id cells (with_raised id table)
+put_missing id cells table none = ap (λ r. put_in r id cells (with_raised id table)) none

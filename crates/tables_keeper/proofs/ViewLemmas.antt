@@ -4,10 +4,10 @@ use Rattle.std.proofs.lemmas.List.{map-set, set-get_or, get_or-map, map-append, 
 use Rattle.std.specs.List.{insert}
 use Rattle.std.proofs.lemmas.Bool.Decides.{nat_tests}
 use Rattle.tables_keeper.specs.declared.cell.Column.{Column}
-use Rattle.tables_keeper.specs.declared.limits.TheConstants.{MAX_ROWS, MAX_SIZE}
 use Rattle.tables_keeper.specs.Rows.{row_size}
 use Rattle.tables_keeper.specs.TableData.{TableData, TableView}
-use Rattle.tables_keeper.specs.Tables.{tables_of, table_at, no_table, row_count, total_size, fits_one_more, fits_in_place}
+use Rattle.tables_keeper.specs.Undo.{CanCount}
+use Rattle.tables_keeper.specs.Tables.{tables_of, table_at, no_table, row_count, total_size, fits_one_more, fits_in_place, max_rows, max_size}
 
 abbrev pub content : TableView → TableData
 content view = view.content
@@ -33,8 +33,12 @@ insert_view views place new =
     ∙ ap (λ (l : List TableData). take place (map content views) ++ new.content ∷ l) (sym (drop-map content place views))
 
 -- what room for a row means
-pub room_parts : (tables : List TableData) (cells : List Column) → IsTrue (fits_one_more tables cells) → (row_count tables < MAX_ROWS) × (total_size tables + row_size cells ≤ MAX_SIZE)
+pub room_parts : (tables : List TableData) (cells : List Column) → IsTrue (fits_one_more tables cells) → (row_count tables < max_rows) × (total_size tables + row_size cells ≤ max_size)
 room_parts tables cells fits = grind (arith, nat_tests)
 
-pub in_place_parts : (tables : List TableData) (old new : List Column) → fits_in_place old new tables ≡ true → total_size tables - row_size old + row_size new ≤ MAX_SIZE
+pub in_place_parts : (tables : List TableData) (old new : List Column) → fits_in_place old new tables ≡ true → total_size tables - row_size old + row_size new ≤ max_size
 in_place_parts tables old new fits = grind (arith, nat_tests)
+
+-- and that it can be counted
+pub room_counts : (tables : List TableData) (cells : List Column) → IsTrue (fits_one_more tables cells) → CanCount cells tables
+room_counts tables cells fits = let parts = room_parts tables cells fits in record { counted = omega (arith, parts.0); sized = omega (arith, parts.1) }

@@ -1,5 +1,5 @@
 -- A table, and what a clause sees of one in memory.
-use Rattle.std.specs.Prelude.{◌≡◌, ℕ, ◌-◌, take, max, Some, ◌+◌, ◌∷◌, ◌++◌, ℤ, pos, negsuc, ◌<◌, ◌≤◌, ◌^◌, ◌==◌, nat_lt, List, [], codes, Option, None, length, sum_by, slice_set, slice_index_or}
+use Rattle.std.specs.Prelude.{◌≡◌, ℕ, max, Some, ◌+◌, ◌∷◌, ◌++◌, ℤ, pos, negsuc, ◌<◌, ◌≤◌, ◌^◌, ◌==◌, nat_lt, List, [], codes, Option, None, length, sum_by, slice_set, slice_index_or}
 use Rattle.std.specs.List.{position, prefix_len, AllPairs, All, insert, remove}
 use Rattle.tables_keeper.specs.declared.cell.Column.{Column}
 use Rattle.tables_keeper.specs.declared.table.Row.{Row}
@@ -48,10 +48,6 @@ without_row place table = record { name = table.name; top = table.top; rows = re
 -- a table with one row more, behind those of lower ids
 abbrev pub with_row_at : ℕ → List Column → TableData → TableData
 with_row_at id cells table = record { name = table.name; top = table.top; rows = insert table.rows (rows_before id table.rows) (record { id = id; cells = cells }) }
-
--- a table without its last row, whose id has not been given
-abbrev pub without_last : TableData → TableData
-without_last table = record { name = table.name; top = table.top - 1; rows = take (length table.rows - 1) table.rows }
 
 -- a table whose largest id ever given is at least this
 abbrev pub with_raised : ℕ → TableData → TableData

@@ -1,7 +1,7 @@
 // The operations on tables, what they answer, and the changes that they make.
 ghost use Rattle.std.specs.Prelude.{◌≡◌, [], ◌∷◌, ◌++◌, length, OnOk, OnErr};
 
-use crate::{CellText, RowCells};
+use crate::{CellText, RowCells, Undo};
 use std::alloc::{AllocError, Global};
 use std::marker::Model;
 
@@ -120,9 +120,10 @@ pub enum Change {
     },
 }
 
-/// What an operation answers, and its change if it made one.
+/// What an operation answers, its change if it made one, and what takes it back.
 #[derive(Debug, Drop)]
 pub struct Step {
     pub reply: TableReply,
     pub change: Option<Change>,
+    pub undo: Option<Undo>,
 }

@@ -1,8 +1,8 @@
 // A row: its columns in their order, none of them twice.
-ghost use Rattle.std.specs.Prelude.{◌≡◌, [], ◌++◌, ◌∷◌, ◌-◌, ◌^◌, ◌<◌, length, min, codes, None, Option, IfOk, OnOk, OnErr, IfSome, fold, slice_index_or, slice_set};
+ghost use Rattle.std.specs.Prelude.{◌≡◌, [], ◌++◌, ◌∷◌, ◌-◌, ◌^◌, ◌<◌, length, min, codes, None, Option, is_some, IfOk, OnOk, OnErr, IfSome, fold, slice_index_or, slice_set};
 ghost use Rattle.std.specs.List.{position};
 ghost use Rattle.std.specs.Option.{option_copied};
-ghost use Rattle.tables_keeper.specs.Rows.{cell_at, is_named, put_column, row_size, without_id, merged, with_id, has_text};
+ghost use Rattle.tables_keeper.specs.Rows.{HasDistinctNames, cell_at, is_named, put_column, row_size, without_id, merged, with_id, has_text};
 
 use crate::{Cell, CellText, Column};
 use std::alloc::{AllocError, Global};
@@ -85,9 +85,17 @@ impl RowCells {
 
     /// The columns in their order.
     pub fn columns(&self) -> &[Column]
-        ensures { result.now ≡ self.now }
+        ensures columns { result.now ≡ self.now }
+        ensures distinct { HasDistinctNames self.now }
     {
         &self.columns
+    }
+
+    /// Whether there is a column of this name.
+    pub fn has(&self, name: &[u8]) -> bool
+        ensures { result ≡ is_some (position (is_named name.now) self.now) }
+    {
+        place_of(&self.columns, name).is_some()
     }
 
     /// The cell at a name.

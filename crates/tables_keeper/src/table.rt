@@ -1,8 +1,10 @@
 // One table: its rows in the order of their ids.
-ghost use Rattle.std.specs.Prelude.{◌≡◌, ℕ, ◌+◌, ◌-◌, ◌<◌, ◌≤◌, ◌^◌, [], ◌∷◌, ◌++◌, ◌==◌, length, codes, None, OnOk, OnErr, IfOk, min, slice_index_or, slice_set};
+ghost use Rattle.std.specs.Prelude.{◌≡◌, ℕ, ◌+◌, ◌-◌, ◌<◌, ◌≤◌, ◌^◌, [], ◌∷◌, ◌++◌, ◌==◌, length, codes, None, OnOk, OnErr, IfOk, IfSome, min, slice_index_or, slice_set};
 ghost use Rattle.std.specs.List.{position, insert, remove, All};
 ghost use Rattle.tables_keeper.specs.Rows.{is_named, merged, row_size, with_id};
-ghost use Rattle.tables_keeper.specs.TableData.{TableView, HasRisingIds, no_row, row_place, rows_before, shown, with_new_row, with_cells, without_row, without_last, with_row_at, with_put, with_raised, with_top, IsGiven};
+ghost use Rattle.tables_keeper.specs.TableData.{TableView, HasRisingIds, IsTable, no_row, row_place, rows_before, shown, with_new_row, with_cells, without_row, with_row_at, with_raised, with_top, IsGiven};
+ghost use Rattle.tables_keeper.specs.Tables.{IsId};
+ghost use Rattle.tables_keeper.specs.Undo.{without_put, with_row_back};
 
 use crate::{CellText, MAX_ID, RowCells};
 use std::alloc::{AllocError, Global};
@@ -44,6 +46,19 @@ fn count_below(rows: &[Row], id: u64) -> usize
     rows.partition_point(|row| row.id < id)
 }
 
+fn copied_rows(alloc: Global, rows: &[Row]) -> Result<Vec<Row>, AllocError>
+    ensures { IfOk result (λ copies. copies.items ≡ rows.now) }
+{
+    let mut copies = Vec::with_capacity(alloc, rows.len())?;
+    for row in rows {
+        copies.push(Row {
+            id: row.id,
+            cells: row.cells.copy(alloc)?,
+        })?;
+    }
+    Ok(copies)
+}
+
 impl Table {
     /// An empty table.
     pub fn new(alloc: Global, name: CellText) -> Self
@@ -54,6 +69,16 @@ impl Table {
             top: 0,
             rows: Vec::new(alloc),
         }
+    }
+
+    pub fn copy(&self, alloc: Global) -> Result<Self, AllocError>
+        ensures { IfOk result (λ table. table.content ≡ self.now.content) }
+    {
+        Ok(Table {
+            name: self.name.copy(alloc)?,
+            top: self.top,
+            rows: copied_rows(alloc, &self.rows)?,
+        })
     }
 
     pub fn name(&self) -> &[u8]
@@ -78,7 +103,8 @@ impl Table {
 
     /// The place of the row of this id.
     pub fn place_of(&self, id: i64) -> Option<usize>
-        ensures { result ≡ row_place id self.now.content.rows }
+        ensures place { result ≡ row_place id self.now.content.rows }
+        ensures given { IfSome result (λ _. IsId id) }
     {
         if id < 0 {
             return None;
@@ -93,6 +119,14 @@ impl Table {
     {
         let row = &self.rows[place];
         row.cells.with_id(alloc, row.id)
+    }
+
+    /// The id of a row.
+    pub fn id_at(&self, place: usize) -> u64
+        requires { place < length self.now.content.rows }
+        ensures { result ≡ (slice_index_or self.now.content.rows place no_row).id }
+    {
+        self.rows[place].id
     }
 
     /// The size of a row.
@@ -126,6 +160,7 @@ impl Table {
         ensures id { IfOk result (λ id. id ≡ self.old.content.top + 1) }
         ensures err { OnErr result (self.new.content ≡ self.old.content) }
         ensures kept { self.old.room ≤ self.new.room }
+        ensures held { IsTable self.old.content.top self.old.content.rows }
     {
         let id = self.top + 1;
         self.rows.push(Row { id, cells })?;
@@ -140,6 +175,7 @@ impl Table {
         ensures content { self.new.content ≡ with_cells place cells self.old.content }
         ensures cells { result ≡ (slice_index_or self.old.content.rows place no_row).cells }
         ensures kept { self.new.room ≡ self.old.room }
+        ensures held { IsTable self.old.content.top self.old.content.rows }
     {
         let row = &mut self.rows[place];
         mem::replace(&mut row.cells, cells)
@@ -151,55 +187,69 @@ impl Table {
         ensures content { self.new.content ≡ without_row place self.old.content }
         ensures cells { result ≡ (slice_index_or self.old.content.rows place no_row).cells }
         ensures kept { self.new.room ≡ self.old.room }
+        ensures room { length self.new.content.rows < self.new.room }
+        ensures held { IsTable self.old.content.top self.old.content.rows }
     {
         let Row { id: _, cells } = self.rows.remove(place);
         cells
     }
 
-    /// Puts a row back that was taken away. There is room for it.
-    pub fn restore(&mut self, id: u64, cells: RowCells)
+    /// Takes a row away and sets the largest id ever given back, and gives the row's cells.
+    pub fn drop_row(&mut self, place: usize, top: u64) -> RowCells
+        requires there { place < length self.old.content.rows }
+        requires table { IsTable top (remove self.old.content.rows place) }
+        ensures content { self.new.content ≡ without_put place top self.old.content }
+        ensures cells { result ≡ (slice_index_or self.old.content.rows place no_row).cells }
+        ensures kept { self.new.room ≡ self.old.room }
+    {
+        let Row { id: _, cells } = self.rows.remove(place);
+        self.top = top;
+        cells
+    }
+
+    /// Puts a row back at a place. There is room for it.
+    pub fn put_back(&mut self, place: usize, id: u64, cells: RowCells)
+        requires there { place ≤ length self.old.content.rows }
+        requires table { IsTable self.old.content.top (insert self.old.content.rows place (record { id = id; cells = cells })) }
+        requires room { length self.old.content.rows < self.old.room }
+        ensures content { self.new.content ≡ with_row_back place id cells self.old.content }
+        ensures kept { self.new.room ≡ self.old.room }
+    {
+        self.rows.insert(place, Row { id, cells }).unwrap();
+    }
+
+    /// Puts a new row among the others, behind those of lower ids, and tells its place. There is room for it.
+    fn insert_row(&mut self, id: u64, cells: RowCells) -> usize
         requires given { IsGiven self.old.content.top (record { id = id; cells = cells }) }
         requires absent { position (λ row. row.id == id) self.old.content.rows ≡ None }
         requires room { length self.old.content.rows < self.old.room }
         ensures content { self.new.content ≡ with_row_at id cells self.old.content }
+        ensures place { result ≡ rows_before id self.old.content.rows }
+        ensures within { result ≤ length self.old.content.rows }
         ensures kept { self.new.room ≡ self.old.room }
     {
         let place = count_below(&self.rows, id);
         self.rows.insert(place, Row { id, cells }).unwrap();
+        place
     }
 
-    /// Takes the last row away, as if its id had not been given.
-    pub fn pop(&mut self)
-        requires last { 0 < length self.old.content.rows }
-        requires newest { (slice_index_or self.old.content.rows (length self.old.content.rows - 1) no_row).id ≡ self.old.content.top }
-        ensures content { self.new.content ≡ without_last self.old.content }
-        ensures kept { self.new.room ≡ self.old.room }
-    {
-        self.rows.truncate(self.rows.len() - 1);
-        self.top -= 1;
-    }
-
-    /// Puts cells at an id: in the place of those of the row that has it, or in a new row.
-    pub fn put(&mut self, id: u64, cells: RowCells) -> Result<(), AllocError>
+    /// Puts a new row under an id that no row has, raises the largest id ever given to it, and tells its place.
+    pub fn put_row(&mut self, id: u64, cells: RowCells) -> Result<usize, AllocError>
         requires positive { 0 < id }
         requires small { id < 2 ^ 63 }
         requires plain { position (is_named (codes "id")) cells ≡ None }
-        ensures ok { OnOk result (self.new.content ≡ with_put id cells self.old.content) }
+        requires absent { position (λ row. row.id == id) self.old.content.rows ≡ None }
+        ensures ok { OnOk result (self.new.content ≡ with_row_at id cells (with_raised id self.old.content)) }
+        ensures place { IfOk result (λ place. place ≡ rows_before id self.old.content.rows) }
+        ensures within { IfOk result (λ place. place ≤ length self.old.content.rows) }
         ensures err { OnErr result (self.new.content ≡ self.old.content) }
         ensures kept { self.old.room ≤ self.new.room }
+        ensures held { IsTable self.old.content.top self.old.content.rows }
     {
-        match place_of(&self.rows, id) {
-            Some(place) => {
-                self.raise_top(id);
-                let _old = self.replace(place, cells);
-            }
-            None => {
-                self.make_room()?;
-                self.raise_top(id);
-                self.restore(id, cells);
-            }
-        }
-        Ok(())
+        self.make_room()?;
+        self.raise_top(id);
+        let place = self.insert_row(id, cells);
+        Ok(place)
     }
 
     /// Makes room for one row more.
@@ -207,6 +257,7 @@ impl Table {
         ensures content { self.new.content ≡ self.old.content }
         ensures ok { OnOk result (length self.new.content.rows < self.new.room) }
         ensures kept { self.old.room ≤ self.new.room }
+        ensures held { IsTable self.old.content.top self.old.content.rows }
     {
         self.rows.reserve(1)
     }

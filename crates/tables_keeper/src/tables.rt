@@ -1,15 +1,20 @@
 // All tables, in the order of their names.
-ghost use Rattle.std.specs.Prelude.{◌≡◌, [], ◌+◌, ◌-◌, ◌≤◌, ◌<◌, length, codes, None, Some, IsTrue, IfOk, OnErr, OnOk, map, filter, slice_set, vec_len, ◌^◌};
-ghost use Rattle.std.specs.List.{position, insert};
+ghost use Rattle.std.specs.Prelude.{◌≡◌, ◌==◌, [], ◌+◌, ◌-◌, ◌≤◌, ◌<◌, length, codes, None, Some, IsTrue, IfOk, IfSome, OnErr, OnOk, ◌++◌, nat_abs, option_to_list, slice_set, ◌^◌};
+ghost use Rattle.std.specs.List.{position, insert, remove, All};
 ghost use Rattle.tables_keeper.specs.Rows.{is_named, merged, row_size, without_id};
-ghost use Rattle.tables_keeper.specs.TableData.{row_place, shown, with_new_row, with_cells, without_row};
-ghost use Rattle.tables_keeper.specs.Tables.{HasRisingNames, tables_of, tables_before, table_place, table_at, row_at, got, all_of, found, answered, inserted, insert_first, insert_next, updated, update_at, deleted, step, IsStep, row_fits, fits_first, fits_next, fits_in_place, fits_one_more, total_size, new_table};
+ghost use Rattle.tables_keeper.specs.TableData.{IsTable, with_new_row, with_cells, without_row, with_row_at, with_raised, with_put};
+ghost use Rattle.tables_keeper.specs.Tables.{HasRisingNames, tables_of, tables_before, table_place, table_at, row_at, got, all_of, found, answered, inserted, insert_first, insert_next, updated, update_at, deleted, step, IsStep, row_fits, fits_first, fits_next, fits_in_place, fits_one_more, total_size, new_table, IsId, IsChange, CanSetTop, redone, all_redone, top_set, put_again, drop_again};
+ghost use Rattle.tables_keeper.specs.Undo.{Grown, IsUndoOf, Undoes, CanUndo, CanTakeBack, CanCount, CanDropTable, CanDropRow, CanPutBack, undone, taken_back, change_at, without_put, with_row_back};
 
+use crate::list::{
+    copied, drop_from, empty_table, first_table, insert_into, place_of, push_into, put_back_into,
+    put_into, remove_from, replace_in, set_top_in,
+};
 use crate::reads::{all_rows, is_duplicate, rows_with_text};
 use crate::table::Table;
 use crate::{
     CellText, Change, MAX_COLUMNS, MAX_ID, MAX_ROW_SIZE, MAX_ROWS, MAX_SIZE, MAX_TABLES, RowCells,
-    Step, TableOp, TableRefusal, TableReply,
+    Step, TableOp, TableRefusal, TableReply, Undo, UndoLog,
 };
 use std::alloc::{AllocError, Global};
 use std::marker::Model;
@@ -36,28 +41,6 @@ impl Model for Tables {
     ghost invariant = { λ tables. IsTables (tables_of tables.list.items) tables.rows tables.size };
 }
 
-/// How many tables, from the first on, have lower names.
-fn count_below(list: &[Table], name: &[u8]) -> usize
-    requires { HasRisingNames (tables_of list.now) }
-    ensures place { result ≡ tables_before name.now (tables_of list.now) }
-    ensures within { result ≤ length list.now }
-{
-    list.partition_point(|table| table.name().cmp(name).is_lt())
-}
-
-/// The place of the table of this name.
-fn place_of(list: &[Table], name: &[u8]) -> Option<usize>
-    requires { HasRisingNames (tables_of list.now) }
-    ensures { result ≡ table_place name.now (tables_of list.now) }
-{
-    let place = count_below(list, name);
-    if place < list.len() && list[place].name() == name {
-        Some(place)
-    } else {
-        None
-    }
-}
-
 impl Tables {
     /// No tables.
     pub fn new(alloc: Global) -> Self
@@ -69,6 +52,17 @@ impl Tables {
             rows: 0,
             size: 0,
         }
+    }
+
+    pub fn copy(&self, alloc: Global) -> Result<Self, AllocError>
+        ensures { IfOk result (λ tables. tables_of tables ≡ tables_of self.now) }
+    {
+        Ok(Tables {
+            alloc,
+            list: copied(alloc, &self.list)?,
+            rows: self.rows,
+            size: self.size,
+        })
     }
 
     fn place_of(&self, name: &[u8]) -> Option<usize>
@@ -132,14 +126,267 @@ impl Tables {
         ensures change { IfOk result (λ answer. answer.1 ≡ (step op.now (tables_of self.old)).change) }
         ensures tables { OnOk result (tables_of self.new ≡ (step op.now (tables_of self.old)).tables) }
         ensures err { OnErr result (tables_of self.new ≡ tables_of self.old) }
+        ensures sound { IfOk result (λ answer. IfSome answer.1 IsChange) }
     {
-        let Step { reply, change } = self.perform(alloc, op)?;
+        let Step {
+            reply,
+            change,
+            undo: _,
+        } = self.perform(alloc, op)?;
         Ok((reply, change))
+    }
+
+    /// Does one operation as `apply` does, and notes what takes it back: what the log leaves of the tables stays.
+    pub fn apply_noted(
+        &mut self,
+        alloc: Global,
+        op: &TableOp,
+        log: &mut UndoLog,
+    ) -> Result<(TableReply, Option<Change>), AllocError>
+        requires { CanUndo log.old self.old }
+        ensures reply { IfOk result (λ answer. answer.0 ≡ (step op.now (tables_of self.old)).reply) }
+        ensures change { IfOk result (λ answer. answer.1 ≡ (step op.now (tables_of self.old)).change) }
+        ensures tables { OnOk result (tables_of self.new ≡ (step op.now (tables_of self.old)).tables) }
+        ensures err { OnErr result (tables_of self.new ≡ tables_of self.old) }
+        ensures sound { IfOk result (λ answer. IfSome answer.1 IsChange) }
+        ensures can { CanUndo log.new self.new }
+        ensures back { tables_of (undone log.new self.new) ≡ tables_of (undone log.old self.old) }
+    {
+        let Step {
+            reply,
+            change,
+            undo,
+        } = self.perform(alloc, op)?;
+        self.note(undo, log)?;
+        Ok((reply, change))
+    }
+
+    /// Notes a change, or takes it back where there is no memory for the note.
+    fn note(&mut self, undo: Option<Undo>, log: &mut UndoLog) -> Result<(), AllocError>
+        requires { IfSome undo (λ undo. CanTakeBack undo self.old) }
+        ensures ok { OnOk result (self.new ≡ self.old) }
+        ensures noted { OnOk result (log.new ≡ option_to_list undo ++ log.old) }
+        ensures err { OnErr result (self.new ≡ undone (option_to_list undo) self.old) }
+        ensures same { OnErr result (log.new ≡ log.old) }
+    {
+        let Some(undo) = undo else {
+            return Ok(());
+        };
+        if let Err(undo) = log.note(undo) {
+            self.take_back_one(undo);
+            return Err(AllocError);
+        }
+        Ok(())
+    }
+
+    /// Takes the changes of a log back, the newest first. It takes no memory.
+    pub fn take_back(&mut self, log: UndoLog)
+        requires { CanUndo log self.old }
+        ensures { self.new ≡ undone log self.old }
+    {
+        let mut left = log;
+        while let Some(undo) = left.pop() {
+            self.take_back_one(undo);
+        }
+    }
+
+    fn take_back_one(&mut self, undo: Undo)
+        requires { CanTakeBack undo self.old }
+        ensures { self.new ≡ taken_back undo self.old }
+    {
+        match undo {
+            Undo::Table { table } => self.drop_table(table),
+            Undo::Row { table, row, top } => self.drop_row(table, row, top),
+            Undo::Cells { table, row, cells } => {
+                let _new = self.replace_cells(table, row, cells);
+            }
+            Undo::Gone {
+                table,
+                row,
+                id,
+                cells,
+            } => self.put_back(table, row, id, cells),
+        }
+    }
+
+    /// Does a change again. A `Put` makes a missing table and raises a lower largest id to its own, a `Drop` of a row that
+    /// is not there changes nothing. No limit is tested.
+    pub fn redo(&mut self, change: &Change) -> Result<(), AllocError>
+        requires { IsChange change.now }
+        ensures ok { OnOk result (tables_of self.new ≡ redone change.now (tables_of self.old)) }
+        ensures err { OnErr result (tables_of self.new ≡ tables_of self.old) }
+    {
+        let _undo = self.redo_one(change)?;
+        Ok(())
+    }
+
+    /// Does a change again as `redo` does, without a copy of its row.
+    pub fn redo_owned(&mut self, change: Change) -> Result<(), AllocError>
+        requires { IsChange change }
+        ensures ok { OnOk result (tables_of self.new ≡ redone change (tables_of self.old)) }
+        ensures err { OnErr result (tables_of self.new ≡ tables_of self.old) }
+    {
+        match change {
+            Change::Put { table, id, row } => {
+                let _undo = self.put_again(&table, id.unsigned_abs(), row)?;
+            }
+            Change::Drop { table, id } => {
+                let _undo = self.drop_again(&table, id);
+            }
+        }
+        Ok(())
+    }
+
+    /// Does several changes again, all or none.
+    pub fn redo_all(&mut self, alloc: Global, changes: &[Change]) -> Result<(), AllocError>
+        requires { All IsChange changes.now }
+        ensures ok { OnOk result (tables_of self.new ≡ all_redone changes.now (tables_of self.old)) }
+        ensures err { OnErr result (tables_of self.new ≡ tables_of self.old) }
+    {
+        let mut log = UndoLog::new(alloc);
+        for change in changes {
+            if self.redo_noted(change, &mut log).is_err() {
+                self.take_back(log);
+                return Err(AllocError);
+            }
+        }
+        Ok(())
+    }
+
+    /// Sets a table's largest id ever given, and makes the table where it is not there.
+    pub fn set_top(&mut self, table: &CellText, top: i64) -> Result<(), AllocError>
+        requires { CanSetTop table.now top (tables_of self.old) }
+        ensures ok { OnOk result (tables_of self.new ≡ top_set (table_place table.now (tables_of self.old)) table.now (nat_abs top) (tables_of self.old)) }
+        ensures err { OnErr result (tables_of self.new ≡ tables_of self.old) }
+    {
+        let top = top.unsigned_abs();
+        match self.place_of(table.as_slice()) {
+            Some(place) => set_top_in(&mut self.list, place, top),
+            None => {
+                let new = empty_table(self.alloc, table.copy(self.alloc)?, top);
+                insert_into(&mut self.list, new)?;
+            }
+        }
+        Ok(())
+    }
+
+    /// Does a change again as `redo` does, and notes what takes it back.
+    pub fn redo_noted(&mut self, change: &Change, log: &mut UndoLog) -> Result<(), AllocError>
+        requires change { IsChange change.now }
+        requires log { CanUndo log.old self.old }
+        ensures ok { OnOk result (tables_of self.new ≡ redone change.now (tables_of self.old)) }
+        ensures err { OnErr result (tables_of self.new ≡ tables_of self.old) }
+        ensures can { CanUndo log.new self.new }
+        ensures back { tables_of (undone log.new self.new) ≡ tables_of (undone log.old self.old) }
+    {
+        let undo = self.redo_one(change)?;
+        self.note(undo, log)?;
+        Ok(())
+    }
+
+    fn redo_one(&mut self, change: &Change) -> Result<Option<Undo>, AllocError>
+        requires { IsChange change.now }
+        ensures ok { OnOk result (tables_of self.new ≡ redone change.now (tables_of self.old)) }
+        ensures undo { IfOk result (λ undo. Undoes undo self.old self.new) }
+        ensures err { OnErr result (Grown self.old self.new) }
+    {
+        match change {
+            Change::Put { table, id, row } => {
+                let cells = row.copy(self.alloc)?;
+                self.put_again(table, id.unsigned_abs(), cells)
+            }
+            Change::Drop { table, id } => Ok(self.drop_again(table, *id)),
+        }
+    }
+
+    fn put_again(
+        &mut self,
+        name: &CellText,
+        id: u64,
+        cells: RowCells,
+    ) -> Result<Option<Undo>, AllocError>
+        requires positive { 0 < id }
+        requires small { id < 2 ^ 63 }
+        requires plain { position (is_named (codes "id")) cells ≡ None }
+        ensures ok { OnOk result (tables_of self.new ≡ put_again (table_place name.now (tables_of self.old)) name.now id cells (tables_of self.old)) }
+        ensures undo { IfOk result (λ undo. Undoes undo self.old self.new) }
+        ensures err { OnErr result (Grown self.old self.new) }
+    {
+        if !self.can_count(&cells) {
+            return Err(AllocError);
+        }
+        match self.place_of(name.as_slice()) {
+            Some(place) => self.put_at(place, id, cells),
+            None => {
+                let table = self.add_table(name.copy(self.alloc)?, id, cells)?;
+                Ok(Some(Undo::Table { table }))
+            }
+        }
+    }
+
+    fn put_at(&mut self, place: usize, id: u64, cells: RowCells) -> Result<Option<Undo>, AllocError>
+        requires place { place < length self.old }
+        requires positive { 0 < id }
+        requires small { id < 2 ^ 63 }
+        requires plain { position (is_named (codes "id")) cells ≡ None }
+        requires room { CanCount cells (tables_of self.old) }
+        ensures ok { OnOk result (tables_of self.new ≡ slice_set (tables_of self.old) place (with_put id cells (table_at place (tables_of self.old)))) }
+        ensures undo { IfOk result (λ undo. Undoes undo self.old self.new) }
+        ensures err { OnErr result (Grown self.old self.new) }
+    {
+        match self.list[place].place_of(id as i64) {
+            Some(row) => {
+                let cells = self.replace_cells(place, row, cells);
+                Ok(Some(Undo::Cells {
+                    table: place,
+                    row,
+                    cells,
+                }))
+            }
+            None => {
+                let top = self.list[place].top();
+                let row = self.put_row(place, id, cells)?;
+                Ok(Some(Undo::Row {
+                    table: place,
+                    row,
+                    top,
+                }))
+            }
+        }
+    }
+
+    fn drop_again(&mut self, name: &CellText, id: i64) -> Option<Undo>
+        ensures tables { tables_of self.new ≡ drop_again (table_place name.now (tables_of self.old)) id (tables_of self.old) }
+        ensures undo { Undoes result self.old self.new }
+    {
+        let place = self.place_of(name.as_slice())?;
+        let row = self.list[place].place_of(id)?;
+        Some(self.take_row(place, row))
+    }
+
+    /// Takes a row away, and gives what takes that back.
+    fn take_row(&mut self, place: usize, row: usize) -> Undo
+        requires place { place < length self.old }
+        requires row { row < length (table_at place (tables_of self.old)).rows }
+        ensures tables { tables_of self.new ≡ slice_set (tables_of self.old) place
+            (without_row row (table_at place (tables_of self.old))) }
+        ensures undo { IsUndoOf result self.old self.new }
+    {
+        let id = self.list[place].id_at(row);
+        let cells = self.remove_row(place, row);
+        Undo::Gone {
+            table: place,
+            row,
+            id,
+            cells,
+        }
     }
 
     fn perform(&mut self, alloc: Global, op: &TableOp) -> Result<Step, AllocError>
         ensures ok { IfOk result (λ answer. IsStep (step op.now (tables_of self.old)) answer (tables_of self.new)) }
-        ensures err { OnErr result (tables_of self.new ≡ tables_of self.old) }
+        ensures undo { IfOk result (λ answer. Undoes answer.undo self.old self.new) }
+        ensures sound { IfOk result (λ answer. IfSome answer.change IsChange) }
+        ensures err { OnErr result (Grown self.old self.new) }
     {
         match op {
             TableOp::Get { table, id } => Ok(answer(self.get(alloc, table, *id)?)),
@@ -164,7 +411,9 @@ impl Tables {
     ) -> Result<Step, AllocError>
         ensures ok { IfOk result (λ answer.
             IsStep (inserted name.now given.now unique.now (tables_of self.old)) answer (tables_of self.new)) }
-        ensures err { OnErr result (tables_of self.new ≡ tables_of self.old) }
+        ensures undo { IfOk result (λ answer. Undoes answer.undo self.old self.new) }
+        ensures sound { IfOk result (λ answer. IfSome answer.change IsChange) }
+        ensures err { OnErr result (Grown self.old self.new) }
     {
         let cells = given.without_id(alloc)?;
         match self.place_of(name.as_slice()) {
@@ -184,14 +433,16 @@ impl Tables {
         requires plain { position (is_named (codes "id")) cells ≡ None }
         ensures ok { IfOk result (λ answer.
             IsStep (insert_first name.now cells (tables_of self.old)) answer (tables_of self.new)) }
-        ensures err { OnErr result (tables_of self.new ≡ tables_of self.old) }
+        ensures undo { IfOk result (λ answer. Undoes answer.undo self.old self.new) }
+        ensures sound { IfOk result (λ answer. IfSome answer.change IsChange) }
+        ensures err { OnErr result (Grown self.old self.new) }
     {
         if !self.fits_first(&cells) {
             return Ok(refused(TableRefusal::Limit));
         }
         let change = put(alloc, name, 1, &cells)?;
-        self.add_table(name.copy(alloc)?, cells)?;
-        Ok(changed(TableReply::Id(1), change))
+        let table = self.add_table(name.copy(alloc)?, 1, cells)?;
+        Ok(changed(TableReply::Id(1), change, Undo::Table { table }))
     }
 
     /// Puts a row last in the table at a place.
@@ -207,7 +458,9 @@ impl Tables {
         requires plain { position (is_named (codes "id")) cells ≡ None }
         ensures ok { IfOk result (λ answer.
             IsStep (insert_next place name.now cells unique.now (tables_of self.old)) answer (tables_of self.new)) }
-        ensures err { OnErr result (tables_of self.new ≡ tables_of self.old) }
+        ensures undo { IfOk result (λ answer. Undoes answer.undo self.old self.new) }
+        ensures sound { IfOk result (λ answer. IfSome answer.change IsChange) }
+        ensures err { OnErr result (Grown self.old self.new) }
     {
         if is_duplicate(unique.as_slice(), &cells, self.list[place].rows()) {
             return Ok(refused(TableRefusal::Duplicate));
@@ -215,10 +468,19 @@ impl Tables {
         if !self.fits_next(place, &cells) {
             return Ok(refused(TableRefusal::Limit));
         }
-        let id = (self.list[place].top() + 1) as i64;
+        let top = self.list[place].top();
+        let id = (top + 1) as i64;
         let change = put(alloc, name, id, &cells)?;
-        self.push_row(place, cells)?;
-        Ok(changed(TableReply::Id(id), change))
+        let row = self.push_row(place, cells)?;
+        Ok(changed(
+            TableReply::Id(id),
+            change,
+            Undo::Row {
+                table: place,
+                row,
+                top,
+            },
+        ))
     }
 
     fn update(
@@ -230,7 +492,9 @@ impl Tables {
     ) -> Result<Step, AllocError>
         ensures ok { IfOk result (λ answer.
             IsStep (updated name.now id given.now (tables_of self.old)) answer (tables_of self.new)) }
-        ensures err { OnErr result (tables_of self.new ≡ tables_of self.old) }
+        ensures undo { IfOk result (λ answer. Undoes answer.undo self.old self.new) }
+        ensures sound { IfOk result (λ answer. IfSome answer.change IsChange) }
+        ensures err { OnErr result (Grown self.old self.new) }
     {
         let Some(place) = self.place_of(name.as_slice()) else {
             return Ok(refused(TableRefusal::NoTable));
@@ -253,25 +517,38 @@ impl Tables {
     ) -> Result<Step, AllocError>
         requires place { place < length self.old }
         requires row { row < length (table_at place (tables_of self.old)).rows }
+        requires id { IsId id }
         ensures ok { IfOk result (λ answer. IsStep (update_at place row name.now id
             (row_at row (table_at place (tables_of self.old))).cells
             (merged (row_at row (table_at place (tables_of self.old))).cells given.now)
             (tables_of self.old)) answer (tables_of self.new)) }
-        ensures err { OnErr result (tables_of self.new ≡ tables_of self.old) }
+        ensures undo { IfOk result (λ answer. Undoes answer.undo self.old self.new) }
+        ensures sound { IfOk result (λ answer. IfSome answer.change IsChange) }
+        ensures err { OnErr result (Grown self.old self.new) }
     {
         let new = self.list[place].merged(alloc, row, given)?;
         if !self.fits_in_place(place, row, &new) {
             return Ok(refused(TableRefusal::Limit));
         }
         let change = put(alloc, name, id, &new)?;
-        let _old = self.replace_cells(place, row, new);
-        Ok(changed(TableReply::Done, change))
+        let cells = self.replace_cells(place, row, new);
+        Ok(changed(
+            TableReply::Done,
+            change,
+            Undo::Cells {
+                table: place,
+                row,
+                cells,
+            },
+        ))
     }
 
     fn delete(&mut self, alloc: Global, name: &CellText, id: i64) -> Result<Step, AllocError>
         ensures ok { IfOk result (λ answer.
             IsStep (deleted name.now id (tables_of self.old)) answer (tables_of self.new)) }
-        ensures err { OnErr result (tables_of self.new ≡ tables_of self.old) }
+        ensures undo { IfOk result (λ answer. Undoes answer.undo self.old self.new) }
+        ensures sound { IfOk result (λ answer. IfSome answer.change IsChange) }
+        ensures err { OnErr result (Grown self.old self.new) }
     {
         let Some(place) = self.place_of(name.as_slice()) else {
             return Ok(refused(TableRefusal::NoTable));
@@ -283,8 +560,8 @@ impl Tables {
             table: name.copy(alloc)?,
             id,
         };
-        let _old = self.remove_row(place, row);
-        Ok(changed(TableReply::Done, change))
+        let undo = self.take_row(place, row);
+        Ok(changed(TableReply::Done, change, undo))
     }
 
     fn fits_one_more(&self, cells: &RowCells) -> bool
@@ -315,22 +592,50 @@ impl Tables {
         row_fits(new) && self.size.saturating_sub(old).saturating_add(new.size()) <= MAX_SIZE
     }
 
-    /// Puts a row last in the table at a place, under the next id.
-    fn push_row(&mut self, place: usize, cells: RowCells) -> Result<u64, AllocError>
+    /// Whether one row more can be counted.
+    fn can_count(&self, cells: &RowCells) -> bool
+        ensures { IsTrue result → CanCount cells.now (tables_of self.now) }
+    {
+        self.rows < usize::MAX && self.size < u64::MAX - cells.size()
+    }
+
+    /// Puts a row last in the table at a place, under the next id, and tells its place.
+    fn push_row(&mut self, place: usize, cells: RowCells) -> Result<usize, AllocError>
         requires place { place < length self.old }
         requires plain { position (is_named (codes "id")) cells ≡ None }
         requires ids { (table_at place (tables_of self.old)).top < MAX_ID }
         requires room { IsTrue (fits_one_more (tables_of self.old) cells) }
         ensures ok { OnOk result (tables_of self.new ≡ slice_set (tables_of self.old) place
             (with_new_row cells (table_at place (tables_of self.old)))) }
-        ensures id { IfOk result (λ id. id ≡ (table_at place (tables_of self.old)).top + 1) }
-        ensures err { OnErr result (tables_of self.new ≡ tables_of self.old) }
+        ensures undo { IfOk result (λ row. IsUndoOf (Undo.Row place row (table_at place (tables_of self.old)).top) self.old self.new) }
+        ensures err { OnErr result (Grown self.old self.new) }
     {
         let size = cells.size();
-        let id = push_into(&mut self.list, place, cells)?;
+        let row = self.list[place].rows().len();
+        push_into(&mut self.list, place, cells)?;
         self.rows += 1;
         self.size += size;
-        Ok(id)
+        Ok(row)
+    }
+
+    /// Puts a new row into the table at a place, and tells the row's place.
+    fn put_row(&mut self, place: usize, id: u64, cells: RowCells) -> Result<usize, AllocError>
+        requires place { place < length self.old }
+        requires positive { 0 < id }
+        requires small { id < 2 ^ 63 }
+        requires plain { position (is_named (codes "id")) cells ≡ None }
+        requires absent { position (λ row. row.id == id) (table_at place (tables_of self.old)).rows ≡ None }
+        requires room { CanCount cells (tables_of self.old) }
+        ensures ok { OnOk result (tables_of self.new ≡ slice_set (tables_of self.old) place
+            (with_row_at id cells (with_raised id (table_at place (tables_of self.old))))) }
+        ensures undo { IfOk result (λ row. IsUndoOf (Undo.Row place row (table_at place (tables_of self.old)).top) self.old self.new) }
+        ensures err { OnErr result (Grown self.old self.new) }
+    {
+        let size = cells.size();
+        let row = put_into(&mut self.list, place, id, cells)?;
+        self.rows += 1;
+        self.size += size;
+        Ok(row)
     }
 
     /// Puts other cells into a row, and gives those that it had.
@@ -340,9 +645,12 @@ impl Tables {
         requires plain { position (is_named (codes "id")) cells ≡ None }
         requires fits { total_size (tables_of self.old) - row_size (row_at row (table_at place (tables_of self.old))).cells
             + row_size cells < 2 ^ 64 }
+        ensures views { self.new ≡ change_at place (with_cells row cells) self.old }
         ensures tables { tables_of self.new ≡ slice_set (tables_of self.old) place
             (with_cells row cells (table_at place (tables_of self.old))) }
         ensures cells { result ≡ (row_at row (table_at place (tables_of self.old))).cells }
+        ensures undo { IsUndoOf (Undo.Cells place row result) self.old self.new }
+        ensures held { IsTable (table_at place (tables_of self.old)).top (table_at place (tables_of self.old)).rows }
     {
         let size = cells.size();
         let old = replace_in(&mut self.list, place, row, cells);
@@ -357,6 +665,7 @@ impl Tables {
         ensures tables { tables_of self.new ≡ slice_set (tables_of self.old) place
             (without_row row (table_at place (tables_of self.old))) }
         ensures cells { result ≡ (row_at row (table_at place (tables_of self.old))).cells }
+        ensures undo { IsUndoOf (Undo.Gone place row (row_at row (table_at place (tables_of self.old))).id result) self.old self.new }
     {
         let old = remove_from(&mut self.list, place, row);
         self.rows -= 1;
@@ -364,84 +673,56 @@ impl Tables {
         old
     }
 
-    /// Puts a table with one row among the others.
-    fn add_table(&mut self, name: CellText, cells: RowCells) -> Result<(), AllocError>
-        requires absent { table_place name (tables_of self.old) ≡ None }
-        requires plain { position (is_named (codes "id")) cells ≡ None }
-        requires room { IsTrue (fits_one_more (tables_of self.old) cells) }
-        ensures ok { OnOk result (tables_of self.new ≡ insert (tables_of self.old) (tables_before name (tables_of self.old))
-            (with_new_row cells (new_table name))) }
-        ensures err { OnErr result (tables_of self.new ≡ tables_of self.old) }
+    /// Takes a row away that was put in, and sets the largest id ever given back.
+    fn drop_row(&mut self, place: usize, row: usize, top: u64)
+        requires { CanDropRow place row top self.old }
+        ensures { self.new ≡ change_at place (without_put row top) self.old }
+    {
+        let old = drop_from(&mut self.list, place, row, top);
+        self.rows -= 1;
+        self.size -= old.size();
+    }
+
+    /// Puts a row back that was taken away.
+    fn put_back(&mut self, place: usize, row: usize, id: u64, cells: RowCells)
+        requires { CanPutBack place row id cells self.old }
+        ensures { self.new ≡ change_at place (with_row_back row id cells) self.old }
     {
         let size = cells.size();
-        let table = first_table(self.alloc, name, cells)?;
-        insert_into(&mut self.list, table)?;
+        put_back_into(&mut self.list, place, row, id, cells);
         self.rows += 1;
         self.size += size;
-        Ok(())
     }
-}
 
-/// Puts a row last in the table at a place, under the next id.
-fn push_into(list: &mut Vec<Table>, place: usize, cells: RowCells) -> Result<u64, AllocError>
-    requires place { place < vec_len list.old }
-    requires plain { position (is_named (codes "id")) cells ≡ None }
-    requires ids { (table_at place (tables_of list.old.items)).top < MAX_ID }
-    ensures ok { OnOk result (tables_of list.new.items ≡ slice_set (tables_of list.old.items) place
-        (with_new_row cells (table_at place (tables_of list.old.items)))) }
-    ensures id { IfOk result (λ id. id ≡ (table_at place (tables_of list.old.items)).top + 1) }
-    ensures err { OnErr result (tables_of list.new.items ≡ tables_of list.old.items) }
-{
-    let table = &mut list[place];
-    let id = table.push(cells)?;
-    Ok(id)
-}
+    /// Takes a table away that has one row.
+    fn drop_table(&mut self, place: usize)
+        requires { CanDropTable place self.old }
+        ensures { self.new ≡ remove self.old place }
+    {
+        let table = self.list.remove(place);
+        self.rows -= 1;
+        self.size -= table.size_at(0);
+    }
 
-/// Puts other cells into a row of the table at a place, and gives those that it had.
-fn replace_in(list: &mut Vec<Table>, place: usize, row: usize, cells: RowCells) -> RowCells
-    requires place { place < vec_len list.old }
-    requires row { row < length (table_at place (tables_of list.old.items)).rows }
-    requires plain { position (is_named (codes "id")) cells ≡ None }
-    ensures tables { tables_of list.new.items ≡ slice_set (tables_of list.old.items) place
-        (with_cells row cells (table_at place (tables_of list.old.items))) }
-    ensures cells { result ≡ (row_at row (table_at place (tables_of list.old.items))).cells }
-{
-    let table = &mut list[place];
-    table.replace(row, cells)
-}
-
-/// Takes a row of the table at a place away, and gives its cells.
-fn remove_from(list: &mut Vec<Table>, place: usize, row: usize) -> RowCells
-    requires place { place < vec_len list.old }
-    requires row { row < length (table_at place (tables_of list.old.items)).rows }
-    ensures tables { tables_of list.new.items ≡ slice_set (tables_of list.old.items) place
-        (without_row row (table_at place (tables_of list.old.items))) }
-    ensures cells { result ≡ (row_at row (table_at place (tables_of list.old.items))).cells }
-{
-    let table = &mut list[place];
-    table.remove(row)
-}
-
-/// A table with one row.
-fn first_table(alloc: Global, name: CellText, cells: RowCells) -> Result<Table, AllocError>
-    requires { position (is_named (codes "id")) cells ≡ None }
-    ensures { IfOk result (λ table. table.content ≡ with_new_row cells (new_table name)) }
-{
-    let mut table = Table::new(alloc, name);
-    table.push(cells)?;
-    Ok(table)
-}
-
-/// Puts a table among the others.
-fn insert_into(list: &mut Vec<Table>, table: Table) -> Result<(), AllocError>
-    requires { HasRisingNames (tables_of list.old.items) }
-    ensures ok { OnOk result (tables_of list.new.items ≡ insert (tables_of list.old.items)
-        (tables_before table.content.name (tables_of list.old.items)) table.content) }
-    ensures err { OnErr result (tables_of list.new.items ≡ tables_of list.old.items) }
-{
-    let place = count_below(list, table.name());
-    list.insert(place, table)?;
-    Ok(())
+    /// Puts a table with one row among the others, and tells its place.
+    fn add_table(&mut self, name: CellText, id: u64, cells: RowCells) -> Result<usize, AllocError>
+        requires absent { table_place name (tables_of self.old) ≡ None }
+        requires positive { 0 < id }
+        requires small { id < 2 ^ 63 }
+        requires plain { position (is_named (codes "id")) cells ≡ None }
+        requires room { CanCount cells (tables_of self.old) }
+        ensures ok { OnOk result (tables_of self.new ≡ insert (tables_of self.old) (tables_before name (tables_of self.old))
+            (with_put id cells (new_table name))) }
+        ensures undo { IfOk result (λ table. IsUndoOf (Undo.Table table) self.old self.new) }
+        ensures err { OnErr result (Grown self.old self.new) }
+    {
+        let size = cells.size();
+        let table = first_table(self.alloc, name, id, cells)?;
+        let place = insert_into(&mut self.list, table)?;
+        self.rows += 1;
+        self.size += size;
+        Ok(place)
+    }
 }
 
 /// Whether a row is within the limits of a row.
@@ -462,25 +743,27 @@ fn put(alloc: Global, name: &CellText, id: i64, cells: &RowCells) -> Result<Chan
 }
 
 fn answer(reply: TableReply) -> Step
-    ensures { result ≡ record { reply = reply; change = None } }
+    ensures { result ≡ record { reply = reply; change = None; undo = None } }
 {
     Step {
         reply,
         change: None,
+        undo: None,
     }
 }
 
 fn refused(why: TableRefusal) -> Step
-    ensures { result ≡ record { reply = TableReply.Refused why; change = None } }
+    ensures { result ≡ record { reply = TableReply.Refused why; change = None; undo = None } }
 {
     answer(TableReply::Refused(why))
 }
 
-fn changed(reply: TableReply, change: Change) -> Step
-    ensures { result ≡ record { reply = reply; change = Some change } }
+fn changed(reply: TableReply, change: Change, undo: Undo) -> Step
+    ensures { result ≡ record { reply = reply; change = Some change; undo = Some undo } }
 {
     Step {
         reply,
         change: Some(change),
+        undo: Some(undo),
     }
 }

@@ -1,3 +1,5 @@
+ghost use Rattle.tables_keeper.specs.Tables.{IsTop};
+
 use super::*;
 use std::alloc::{AllocError, Global};
 use std::test::Fail;
@@ -254,5 +256,162 @@ fn there_are_a_hundred_tables_at_most(rt: HostRuntime) -> Result<(), Fail> {
     };
     let (reply, _change) = tables.apply(alloc, &all)?;
     assert_eq!(rt; why(&reply), Some(TableRefusal::NoTable));
+    Ok(())
+}
+
+fn all(alloc: Global, tables: &mut Tables) -> Result<usize, AllocError> {
+    let op = TableOp::All {
+        table: text(alloc, b"t")?,
+    };
+    let (reply, _change) = tables.apply(alloc, &op)?;
+    Ok(count_of(&reply))
+}
+
+fn update(alloc: Global, tables: &mut Tables, id: i64) -> Result<TableReply, AllocError> {
+    let op = TableOp::Update {
+        table: text(alloc, b"t")?,
+        id,
+        row: row(alloc, &[(b"v", b"b")])?,
+    };
+    let (reply, _change) = tables.apply(alloc, &op)?;
+    Ok(reply)
+}
+
+#[test]
+fn a_row_lives_from_its_insert_to_its_delete(rt: HostRuntime) -> Result<(), Fail> {
+    let alloc = rt.alloc();
+    let mut tables = Tables::new(alloc);
+    assert_eq!(rt; id_of(&add(alloc, &mut tables)?), 1);
+    assert_eq!(rt;
+        why(&add(alloc, &mut tables)?),
+        Some(TableRefusal::Duplicate)
+    );
+    assert_eq!(rt; find(alloc, &mut tables, b"v", b"a")?, 1);
+    assert!(rt; why(&update(alloc, &mut tables, 1)?).is_none());
+    let got = get(alloc, &mut tables)?;
+    assert!(rt; shows(&got, &[(b"id", b"1"), (b"v", b"b")]));
+    assert!(rt; why(&delete(alloc, &mut tables, 1)?).is_none());
+    assert_eq!(rt; all(alloc, &mut tables)?, 0);
+    Ok(())
+}
+
+#[test]
+fn there_are_a_hundred_thousand_rows_at_most(rt: HostRuntime) -> Result<(), Fail> {
+    let alloc = rt.alloc();
+    let mut tables = Tables::new(alloc);
+    for _ in 0..MAX_ROWS {
+        let _reply = insert(alloc, &mut tables, RowCells::new(alloc), b"")?;
+    }
+    assert_eq!(rt; all(alloc, &mut tables)?, 100_000);
+    let reply = insert(alloc, &mut tables, RowCells::new(alloc), b"")?;
+    assert_eq!(rt; why(&reply), Some(TableRefusal::Limit));
+    Ok(())
+}
+
+#[test]
+fn all_rows_have_sixty_four_mebibytes_at_most(rt: HostRuntime) -> Result<(), Fail> {
+    let alloc = rt.alloc();
+    let mut tables = Tables::new(alloc);
+    // 11 bytes besides the text's own, so that the rows fill the tables to the last byte.
+    let value = vec![in alloc; b'x'; MAX_ROW_SIZE as usize - 11]?;
+    for _ in 0..MAX_SIZE / MAX_ROW_SIZE {
+        let cells = row(alloc, &[(b"v", value.as_slice())])?;
+        let reply = insert(alloc, &mut tables, cells, b"")?;
+        assert_eq!(rt; why(&reply), None);
+    }
+    let cells = row(alloc, &[(b"v", b"")])?;
+    let reply = insert(alloc, &mut tables, cells, b"")?;
+    assert_eq!(rt; why(&reply), Some(TableRefusal::Limit));
+    delete(alloc, &mut tables, 1)?;
+    let cells = row(alloc, &[(b"v", value.as_slice())])?;
+    let reply = insert(alloc, &mut tables, cells, b"")?;
+    assert_eq!(rt; id_of(&reply), 1_025);
+    Ok(())
+}
+
+fn delete_op(alloc: Global, id: i64) -> Result<TableOp, AllocError> {
+    Ok(TableOp::Delete {
+        table: text(alloc, b"t")?,
+        id,
+    })
+}
+
+fn insert_op(alloc: Global, name: &[u8]) -> Result<TableOp, AllocError> {
+    Ok(TableOp::Insert {
+        table: text(alloc, name)?,
+        row: row(alloc, &[(b"v", b"d")])?,
+        unique: text(alloc, b"")?,
+    })
+}
+
+fn update_op(alloc: Global, id: i64) -> Result<TableOp, AllocError> {
+    Ok(TableOp::Update {
+        table: text(alloc, b"t")?,
+        id,
+        row: row(alloc, &[(b"w", b"e")])?,
+    })
+}
+
+#[test]
+fn changes_are_taken_back(rt: HostRuntime) -> Result<(), Fail> {
+    let alloc = rt.alloc();
+    let mut tables = Tables::new(alloc);
+    let _made = add(alloc, &mut tables)?;
+    let mut log = UndoLog::new(alloc);
+    let _gone = tables.apply_noted(alloc, &delete_op(alloc, 1)?, &mut log)?;
+    let _made = tables.apply_noted(alloc, &insert_op(alloc, b"s")?, &mut log)?;
+    let _made = tables.apply_noted(alloc, &insert_op(alloc, b"t")?, &mut log)?;
+    let _made = tables.apply_noted(alloc, &update_op(alloc, 2)?, &mut log)?;
+    let _none = tables.apply_noted(alloc, &update_op(alloc, 1)?, &mut log)?;
+    assert_eq!(rt; log.len(), 4);
+    let mut kept = tables.copy(alloc)?;
+    assert_eq!(rt; find(alloc, &mut kept, b"w", b"e")?, 1);
+    tables.take_back(log);
+    assert_eq!(rt; find(alloc, &mut tables, b"v", b"a")?, 1);
+    assert_eq!(rt; all(alloc, &mut tables)?, 1);
+    assert_eq!(rt; find(alloc, &mut tables, b"w", b"e")?, 0);
+    Ok(())
+}
+
+#[test]
+fn the_largest_id_ever_given_stays(rt: HostRuntime) -> Result<(), Fail> {
+    let alloc = rt.alloc();
+    let mut tables = Tables::new(alloc);
+    tables.redo_owned(Change::Put {
+        table: text(alloc, b"t")?,
+        id: 5,
+        row: RowCells::new(alloc),
+    })?;
+    assert_eq!(rt; all(alloc, &mut tables)?, 1);
+    let gone = Change::Drop {
+        table: text(alloc, b"t")?,
+        id: 5,
+    };
+    tables.redo(&gone)?;
+    tables.redo(&gone)?;
+    assert_eq!(rt; all(alloc, &mut tables)?, 0);
+    assert_eq!(rt; id_of(&add(alloc, &mut tables)?), 6);
+    Ok(())
+}
+
+/// The reply to an insert into a table whose largest id ever given was set.
+fn insert_after(alloc: Global, top: i64) -> Result<TableReply, AllocError>
+    requires { IsTop top }
+{
+    let mut tables = Tables::new(alloc);
+    tables.set_top(&text(alloc, b"t")?, top)?;
+    add(alloc, &mut tables)
+}
+
+#[test]
+fn a_largest_id_is_set(rt: HostRuntime) -> Result<(), Fail> {
+    let alloc = rt.alloc();
+    assert_eq!(rt; id_of(&insert_after(alloc, 0)?), 1);
+    assert_eq!(rt; id_of(&insert_after(alloc, 10)?), 11);
+    assert_eq!(rt; id_of(&insert_after(alloc, i64::MAX - 1)?), i64::MAX);
+    assert_eq!(rt;
+        why(&insert_after(alloc, i64::MAX)?),
+        Some(TableRefusal::Limit)
+    );
     Ok(())
 }

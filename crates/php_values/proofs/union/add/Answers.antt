@@ -1,4 +1,4 @@
-use Rattle.std.proofs.Common.{◌≡◌, ◌∙◌, ap}
+use Rattle.std.proofs.Common.{◌∙◌, ap}
 use Rattle.php_values.specs.Data.{data_of}
 use Rattle.php_values.proofs.Datas.{data-List}
 use Rattle.php_values.proofs.union.add.Goals as goal

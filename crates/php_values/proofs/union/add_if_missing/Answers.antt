@@ -1,4 +1,4 @@
-use Rattle.std.proofs.Common.{◌≡◌, ◌∙◌, ap, sym}
+use Rattle.std.proofs.Common.{◌∙◌, sym}
 use Rattle.php_values.specs.Data.{data_of}
 use Rattle.php_values.proofs.Datas.{added, kept-there, copied_some, copied_none}
 use Rattle.php_values.proofs.union.add_if_missing.Goals as goal

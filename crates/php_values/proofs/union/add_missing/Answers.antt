@@ -1,4 +1,4 @@
-use Rattle.std.proofs.Common.{◌≡◌, ◌∙◌, ◌+◌, ap, sym, subst, drop, length, ◌<◌}
+use Rattle.std.proofs.Common.{◌∙◌, ◌+◌, ap, sym, subst, drop, ◌<◌}
 use Rattle.order_map.specs.Arrays.{pairs_of}
 use Rattle.order_map.proofs.Places.{place-some}
 use Rattle.php_values.specs.Data.{array_of, data_pairs}

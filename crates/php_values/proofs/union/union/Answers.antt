@@ -1,4 +1,4 @@
-use Rattle.std.proofs.Common.{◌≡◌, ◌∙◌, ap, sym, subst, Ok, length, ◌<◌, ◌≤◌}
+use Rattle.std.proofs.Common.{◌∙◌, ap, sym, subst, Ok, ◌<◌, ◌≤◌}
 use Rattle.order_map.specs.Arrays.{pairs_of}
 use Rattle.php_values.specs.Data.{array, array_of, data_pairs}
 use Rattle.php_values.specs.Arithmetic.{with_missing, max_pairs}

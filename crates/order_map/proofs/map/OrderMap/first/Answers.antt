@@ -1,13 +1,19 @@
-use Rattle.std.proofs.Common.{arith, ap, length}
-use Rattle.std.proofs.lemmas.Bool.Decides.{nat_tests}
-use Rattle.order_map.specs.Arrays.{pairs_of, next_of, place_of}
-use Rattle.order_map.proofs.Columns.{place_here, no_place}
+use Rattle.std.proofs.Common.{ap, ◌∙◌, Some, None}
+use Rattle.order_map.specs.Arrays.{pairs_of, next_of, place_of, place_at}
+use Rattle.order_map.proofs.Sound.{passed-none}
+use Rattle.order_map.proofs.Steps.{first_place}
 use Rattle.order_map.proofs.map.OrderMap.first.Goals as goal
 
-pub returns-then-is_empty : goal.returns-then-is_empty
+pub returns-in-Some : goal.returns-in-Some
 unfolding pairs_of next_of place_of
-returns-then-is_empty g c = let t = ap length c.as_slice.ensures.value in let e = c.is_empty.ensures in let b = c.if-is_empty.true in no_place c.self.inside.keys.items c.self.inside.values.items c.self.inside.next 0 c.args.self.now c.self.view_is c.self.invariant.counted (grind (arith, nat_tests))
+returns-in-Some g c =
+    let es = c.self.inside.entries.items in
+    ap (λ x. Some (place_at x)) c.new.ensures ∙ first_place es c.as_slice.result.now c.self.inside.passed c.self.inside.next c.args.self.now (Some c.in-Some.slot) c.self.view_is c.as_slice.ensures.value
+    (passed-none es c.self.inside.passed c.self.inside.count c.self.inside.next c.self.inside.index.heads.items c.self.inside.index.links.items c.self.invariant) c.in-Some.ensures
 
-pub returns-else-is_empty : goal.returns-else-is_empty
+pub returns-in-None : goal.returns-in-None
 unfolding pairs_of next_of place_of
-returns-else-is_empty g c = let t = ap length c.as_slice.ensures.value in let e = c.is_empty.ensures in let b = c.if-is_empty.false in place_here c.self.inside.keys.items c.self.inside.values.items c.self.inside.next 0 c.args.self.now c.new.result c.self.view_is c.self.invariant.counted (grind (arith, nat_tests)) c.new.ensures
+returns-in-None g c =
+    let es = c.self.inside.entries.items in
+    first_place es c.as_slice.result.now c.self.inside.passed c.self.inside.next c.args.self.now None c.self.view_is c.as_slice.ensures.value
+    (passed-none es c.self.inside.passed c.self.inside.count c.self.inside.next c.self.inside.index.heads.items c.self.inside.index.links.items c.self.invariant) c.in-None.ensures

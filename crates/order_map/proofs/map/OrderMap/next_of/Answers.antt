@@ -1,16 +1,24 @@
-use Rattle.std.proofs.Common.{rules, arith, ap, ◌∙◌, ◌+◌, length}
-use Rattle.order_map.specs.Arrays.{pairs_of, next_of, place_of}
-use Rattle.order_map.proofs.Columns.{placed_below, place_here, no_place}
+use Rattle.std.proofs.Common.{rules, arith, ap, ◌∙◌, ◌<◌, Some, None, length}
+use Rattle.order_map.specs.Arrays.{pairs_of, next_of, place_of, place_at}
+use Rattle.order_map.proofs.Steps.{placed_in, placed_inside, next_place}
 use Rattle.order_map.proofs.map.OrderMap.next_of.Goals as goal
 
-pub overflow_add-next : goal.overflow_add-next
+pub overflow_add-at : goal.overflow_add-at
 unfolding pairs_of next_of place_of
-overflow_add-next g c = let p = placed_below c.self.inside.keys.items c.self.inside.values.items c.self.inside.next c.requires.number c.args.self.now c.args.place c.self.view_is c.self.invariant.counted c.requires.is in let l = p.0 in let q = p.1 in search (rules, l, q)
+overflow_add-at g c =
+    let es = c.self.inside.entries.items in
+    let f = placed_in es c.self.inside.next c.args.self.now c.requires.number c.args.place c.self.view_is c.requires.is in
+    let l = placed_inside es c.requires.number c.args.place.at f in
+    let q = c.at.ensures in
+    let m : c.at.result < length es = omega arith in
+    search (rules, m)
 
-pub returns-then-next-count : goal.returns-then-next-count
+pub returns-in-Some : goal.returns-in-Some
 unfolding pairs_of next_of place_of
-returns-then-next-count g c = λ i e. let p = placed_below c.self.inside.keys.items c.self.inside.values.items c.self.inside.next i c.args.self.now c.args.place c.self.view_is c.self.invariant.counted e in let q = c.at-next.ensures ∙ p.1 in let s = c.as_slice-count.ensures.value in let t = ap length s in place_here c.self.inside.keys.items c.self.inside.values.items c.self.inside.next (i + 1) c.args.self.now c.new.result c.self.view_is c.self.invariant.counted (omega arith) (c.new.ensures ∙ ap (λ x. x + 1) q)
+returns-in-Some g c = λ i e.
+    ap (λ x. Some (place_at x)) c.new.ensures ∙ next_place c.self.inside.entries.items c.as_slice.result.now c.self.inside.next c.args.self.now i c.args.place c.at.result (Some c.in-Some.slot) c.self.view_is c.as_slice.ensures.value c.at.ensures e c.in-Some.ensures
 
-pub returns-else-next-count : goal.returns-else-next-count
+pub returns-in-None : goal.returns-in-None
 unfolding pairs_of next_of place_of
-returns-else-next-count g c = λ i e. let p = placed_below c.self.inside.keys.items c.self.inside.values.items c.self.inside.next i c.args.self.now c.args.place c.self.view_is c.self.invariant.counted e in let q = c.at-next.ensures ∙ p.1 in let s = c.as_slice-count.ensures.value in let t = ap length s in no_place c.self.inside.keys.items c.self.inside.values.items c.self.inside.next (i + 1) c.args.self.now c.self.view_is c.self.invariant.counted (omega arith)
+returns-in-None g c = λ i e.
+    next_place c.self.inside.entries.items c.as_slice.result.now c.self.inside.next c.args.self.now i c.args.place c.at.result None c.self.view_is c.as_slice.ensures.value c.at.ensures e c.in-None.ensures

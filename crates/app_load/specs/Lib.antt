@@ -1,0 +1,13 @@
+pub mod Entries
+pub mod Files
+pub mod Parts
+pub mod Kept
+pub mod Copies
+pub mod Findings
+pub mod Seen
+pub mod Twice
+pub mod Stubs
+pub mod Judged
+pub mod Outcomes
+pub mod Applications
+pub mod CopyParts

@@ -1,0 +1,10 @@
+pub mod Good
+pub mod Cutting
+pub mod Declares
+pub mod Entering
+pub mod Nodes
+pub mod Copies
+pub mod Rows
+pub mod MoreRows
+pub mod Beginning
+pub mod CopyOf

@@ -1,0 +1,43 @@
+-- The calls of the library, by their names in lower case. The definitions of texts and lists stand in crates of their own.
+use Rattle.std.specs.Prelude.{ℕ, List, [], ◌∷◌, Bool, true, false, codes, if◌then◌else◌}
+use Rattle.std.specs.declared.option.Option.{Option}
+use Rattle.std.specs.declared.option.Option.TheVariants.{Some, None}
+use Rattle.std.specs.Str.{bytes_eq}
+use Rattle.php_values.specs.Data.{Data}
+use Rattle.php_arguments.specs.Answers.{CallAnswer}
+use Rattle.php_text_calls.specs.declared.call.TextCall.{TextCall}
+use Rattle.php_text_calls.specs.TextCalls.{text_answer, call_named}
+
+-- what a call over a list gives: a value, and its arguments after it
+pub record ListAnswer : Type 0 where
+  pub value : Data
+  pub after : List Data
+
+-- a call that only reads its arguments, or one that may change its first argument, where it is a variable
+pub data LibraryCall : Type 0 where
+  reads : (List Data → CallAnswer Data) → LibraryCall
+  changes : (List Data → CallAnswer ListAnswer) → LibraryCall
+
+-- calls that know the run
+pub data SystemCall : Type 0 where
+  define : SystemCall
+  defined : SystemCall
+  function_exists : SystemCall
+  call_user_func : SystemCall
+
+-- the calls over texts
+abbrev pub text_call_or : Option LibraryCall → Option TextCall → Option LibraryCall
+text_call_or other None = other
+text_call_or other (Some call) = Some (reads (text_answer call))
+
+-- the calls over texts and lists
+abbrev pub library_call : List ℕ → Option LibraryCall
+library_call name = text_call_or None (call_named name)
+
+abbrev pub system_call : List ℕ → Option SystemCall
+system_call name =
+    if bytes_eq name (codes "define") then Some define
+    else if bytes_eq name (codes "defined") then Some defined
+    else if bytes_eq name (codes "function_exists") then Some function_exists
+    else if bytes_eq name (codes "call_user_func") then Some call_user_func
+    else None

@@ -1,0 +1,4 @@
+pub mod Slots
+pub mod Writes
+pub mod Items
+pub mod Stores

@@ -1,0 +1,5 @@
+pub mod Journal
+pub mod JournalKeeper
+pub mod Keeper
+pub mod RowText
+pub mod Texts
