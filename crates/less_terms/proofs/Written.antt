@@ -26,7 +26,7 @@ forms [] d l f = absurd (omega arith)
 forms (a ∷ []) d l f = grind (arith, common_steps)
 forms (a ∷ b ∷ rest) d l f = grind (arith, common_steps)
 
-digits : (text : List ℕ) → is_decimal text ≡ true → are_digits text
+pub digits : (text : List ℕ) → is_decimal text ≡ true → are_digits text
 digits [] e = refl
 digits (a ∷ []) e = grind (arith, common_steps)
 digits (a ∷ b ∷ rest) e = grind (arith, common_steps)
