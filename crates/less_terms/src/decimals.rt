@@ -1,5 +1,6 @@
 // Decimal numbers without sign and leading zero.
-ghost use Rattle.std.specs.Prelude.{◌≡◌, ◌+◌, ◌*◌, ◌^◌, ◌<◌, SomeIff};
+ghost use Rattle.std.specs.Prelude.{◌≡◌, ℕ, ◌+◌, ◌*◌, ◌^◌, ◌<◌, ◌≤◌, List, Some, SomeIff};
+ghost use Rattle.std.specs.Fmt.{decimal};
 ghost use Rattle.less_terms.specs.Decimals.{is_decimal, decimal_value};
 ghost use Rattle.std.specs.List.{list_all};
 ghost use Rattle.less_terms.specs.Decimals.{is_digit as digit};
@@ -49,3 +50,10 @@ pub fn read_decimal(text: &[u8], most: u64) -> Option<u64>
     }
     if value <= most { Some(value) } else { None }
 }
+
+/// What a number is written as is read as the number, and nothing else is.
+#[tactic(auto, using(crate::proofs::Written::read_written, crate::proofs::Written::written_read))]
+pub fn written_numbers()
+    ensures written { (most n : ℕ) → n < 2 ^ 64 → n ≤ most → decimal_value most (decimal n) ≡ Some n }
+    ensures only { (most n : ℕ) (text : List ℕ) → most < 2 ^ 64 → decimal_value most text ≡ Some n → text ≡ decimal n }
+{}

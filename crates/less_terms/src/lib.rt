@@ -6,7 +6,7 @@ mod forms;
 mod lines;
 mod paths;
 
-pub use decimals::read_decimal;
+pub use decimals::{read_decimal, written_numbers};
 pub use forms::is_role;
 pub use lines::{count_lines, count_newlines};
 pub use paths::{is_function_name, is_path};
