@@ -1,8 +1,10 @@
+pub mod Texts
 pub mod Keys
 pub mod Hashes
 pub mod MapView
 pub mod Chains
 pub mod Copies
 pub mod Arrays
+pub mod Taken
 pub mod Sound
 pub mod formers

@@ -1,6 +1,6 @@
 // The index of an array: where its keys stand.
 
-ghost use Rattle.std.specs.Prelude.{◌≡◌, ◌<◌, ◌≤◌, ◌+◌, ℕ, true, false, length, slice_get, Some, OnOk, OnErr, IfSome, MatchOption};
+ghost use Rattle.std.specs.Prelude.{◌≡◌, ◌<◌, ◌≤◌, ◌+◌, ◌^◌, ℕ, true, false, length, slice_get, Some, OnOk, OnErr, IfSome, MatchOption};
 ghost use Rattle.order_map.specs.Hashes.{bucket_of};
 ghost use Rattle.order_map.specs.Chains.{IsLinked, IsIndex, slots_of, holds};
 
@@ -11,12 +11,16 @@ use std::alloc::{AllocError, Global};
 // An array of so few slots has no index.
 const FEW: usize = 8;
 
+// The greatest count of slots: their numbers take 32 bits.
+const MAX_SLOTS: usize = 1 << 31;
+
 /// Buckets, each of which leads to the newest slot whose key falls into it, and each slot to the next older one of its
 /// bucket: 1 and its number, or 0. Without buckets it says nothing.
 #[derive(Drop)]
 pub struct Index {
-    pub(crate) heads: Vec<usize>,
-    pub(crate) links: Vec<usize>,
+    pub(crate) heads: Vec<u32>,
+    pub(crate) links: Vec<u32>,
+    ghost small: { length links.items ≤ 2 ^ 31 },
 }
 
 impl Clone for Index {
@@ -64,7 +68,7 @@ impl Index {
     {
         let bucket = bucket(&entries[slot].key, self.heads.len());
         self.links[slot] = self.heads[bucket];
-        self.heads[bucket] = slot + 1;
+        self.heads[bucket] = (slot + 1) as u32;
     }
 
     // Links all slots anew, for other keys than before. It takes no memory.
@@ -97,11 +101,12 @@ impl Index {
         {
             return Ok(());
         }
-        let Some(count) = entries.len().max(FEW).checked_mul(2) else {
+        let slots = entries.len().max(FEW);
+        if slots > MAX_SLOTS / 2 {
             return Err(AllocError);
-        };
-        let heads = vec![in alloc; 0; count]?;
-        let links = vec![in alloc; 0; count]?;
+        }
+        let heads = vec![in alloc; 0; 4 * slots]?;
+        let links = vec![in alloc; 0; 2 * slots]?;
         let mut grown = Index { heads, links };
         grown.relink(entries);
         *self = grown;
@@ -142,7 +147,7 @@ impl Index {
     {
         let mut at = self.heads[bucket(key, self.heads.len())];
         while at != 0 {
-            let slot = at - 1;
+            let slot = at as usize - 1;
             if entries[slot].holds(key) {
                 return Some(slot);
             }

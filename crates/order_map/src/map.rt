@@ -6,6 +6,8 @@ ghost use Rattle.std.specs.Option.{option_copied};
 ghost use Rattle.order_map.specs.Keys.{all_below, next_after, spent};
 ghost use Rattle.order_map.specs.Arrays.{pairs_of, next_of, place_of, IsPlace, IsArray, IsSameArray, IsCopy, keys_of, pairs_in, look, put, without};
 ghost use Rattle.order_map.specs.Chains.{holds};
+ghost use Rattle.order_map.specs.Taken.{values_of, values_left};
+ghost use Rattle.std.specs.declared.alloc.Global.{Global};
 ghost use Rattle.order_map.specs.declared.key.Key.TheVariants.{Int};
 
 use crate::entry::Entry;
@@ -111,7 +113,9 @@ impl<V> OrderMap<V> {
 
 impl<V> OrderMap<V> {
     /// Takes the array apart. Its keys are dropped, and its values can be let go one by one.
-    pub fn into_values(self) -> Values<V> {
+    pub fn into_values(self) -> Values<V>
+        ensures { values_left result ≡ values_of (pairs_of self) }
+    {
         let OrderMap {
             entries,
             index,
@@ -123,8 +127,10 @@ impl<V> OrderMap<V> {
         Values::new(entries)
     }
 
-    /// The allocator that the array was made with.
-    pub fn allocator(&self) -> Global {
+    /// The allocator that the array was made with. There is but one of its type.
+    pub fn allocator(&self) -> Global
+        ensures { (other : Global) → result ≡ other }
+    {
         *self.entries.allocator()
     }
 }

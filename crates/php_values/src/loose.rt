@@ -13,6 +13,7 @@ use crate::fault::ValueFault;
 use crate::number::{is_numeric, leading_number};
 use crate::seen::{Seen, look_at, seen_truth, text_truth, two_arrays};
 use crate::value::Value;
+use crate::walk::MAX_TURNS;
 use std::alloc::Global;
 use std::mem;
 
@@ -181,8 +182,7 @@ fn walk_all<'a>(alloc: Global, first: Beside<'a>) -> Result<bool, ValueFault>
 {
     let mut above: Vec<Beside<'a>> = Vec::new(alloc);
     let mut beside = first;
-    // more turns than there can be pairs
-    for _ in 0..u64::MAX {
+    for _ in 0..MAX_TURNS {
         let Some((_, value, other)) = beside.next() else {
             let Some(outer) = above.pop() else {
                 return Ok(true);

@@ -9,7 +9,7 @@ ghost use Rattle.php_values.specs.Identity.{LinkIs, NextIs, same_both};
 
 use crate::seen::{Seen, look_at, two_arrays};
 use crate::value::Value;
-use crate::walk::Walk;
+use crate::walk::{MAX_TURNS, Walk};
 use std::alloc::{AllocError, Global};
 use std::mem;
 
@@ -134,8 +134,7 @@ fn walk_all<'a>(alloc: Global, first: Both<'a>) -> Result<bool, AllocError>
 {
     let mut above: Vec<Both<'a>> = Vec::new(alloc);
     let mut both = first;
-    // more turns than there can be pairs
-    for _ in 0..u64::MAX {
+    for _ in 0..MAX_TURNS {
         let Some(link) = next_link(&mut both) else {
             let Some(outer) = above.pop() else {
                 return Ok(true);

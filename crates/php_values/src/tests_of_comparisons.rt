@@ -392,3 +392,28 @@ fn a_million_levels(rt: HostRuntime) -> Result<(), Fail> {
     drop(value);
     Ok(())
 }
+
+// An array in which the one before stands twice, and so on down to the empty array.
+fn doubled(alloc: Global, levels: u32) -> Result<Value, AllocError> {
+    let mut value = list(alloc, OrderMap::new(alloc))?;
+    for _ in 0..levels {
+        let mut map = OrderMap::new(alloc);
+        let _old = map.set(Key::Int(0), copy_value(&value)?)?;
+        let _old = map.set(Key::Int(1), value)?;
+        value = list(alloc, map)?;
+    }
+    Ok(value)
+}
+
+#[test]
+fn shared_parts(rt: HostRuntime) -> Result<(), Fail> {
+    let alloc = rt.alloc();
+    let few = doubled(alloc, 10)?;
+    assert!(rt; matches!(loose_eq(alloc, &few, &doubled(alloc, 10)?), Ok(true)));
+    let many = doubled(alloc, 100)?;
+    let other = doubled(alloc, 100)?;
+    assert!(rt; loose_eq(alloc, &many, &other) == Err(ValueFault::Memory));
+    assert!(rt; compare(alloc, &many, &other) == Err(ValueFault::Memory));
+    assert!(rt; strict_eq(alloc, &many, &other).is_err());
+    Ok(())
+}

@@ -6,6 +6,10 @@ ghost use Rattle.order_map.specs.Arrays.{place_of};
 use crate::value::Value;
 use order_map::{Key, OrderMap, Place};
 
+/// A comparison that comes to more pairs than this answers want of memory. Arrays that share their parts may have more
+/// pairs than there is memory for, since a shared part counts each time that it is met.
+pub(crate) const MAX_TURNS: u64 = 1 << 24;
+
 /// A walk over the pairs of an array, in their order. Contracts see the pairs that are left, by `rest_of`.
 #[derive(Drop)]
 pub struct Walk<'a> {

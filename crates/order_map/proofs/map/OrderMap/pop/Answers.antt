@@ -16,3 +16,8 @@ pub loop-entry-preserved : goal.loop-entry-preserved
 unfolding pairs_of next_of place_of
 loop-entry-preserved g c =
     (pop-none c.loop-entry.self.entries c.pop_slot.new.self.entries c.in-Some.entry c.in-Some.ensures.entries c.in_default-value.is ∙ c.loop-entry.invariant.0, c.in-Some.ensures.next ∙ c.loop-entry.invariant.1)
+
+pub loop-entry-preserved-in_default-value-2 : goal.loop-entry-preserved-in_default-value-2
+unfolding pairs_of next_of place_of
+loop-entry-preserved-in_default-value-2 g c =
+    (pop-none c.loop-entry.self.entries c.pop_slot.new.self.entries c.in-Some.entry c.in-Some.ensures.entries c.in_default-value.is ∙ c.loop-entry.invariant.0, c.in-Some.ensures.next ∙ c.loop-entry.invariant.1)
