@@ -1,5 +1,5 @@
 -- The replies that are the same bytes each time.
-use Rattle.std.specs.Prelude.{ℕ, Bool, true, false, ◌&&◌, not, List, [], ◌∷◌, ◌++◌, length, codes, if◌then◌else◌}
+use Rattle.std.specs.Prelude.{ℕ, Bool, true, false, ◌&&◌, not, List, [], ◌++◌, length, codes, if◌then◌else◌}
 use Rattle.reply_text.specs.Replies.{status_text, head_front, head_back, less_line}
 use Rattle.reply_text.specs.declared.fixed.FixedEnd.{FixedEnd}
 use Rattle.reply_text.specs.declared.fixed.FixedEnd.TheVariants.{BadRequest, NoLength, TooLarge, NotImplemented, NotFound, NoSlot, TablesSpent, Store, Log, Ids, Clock, Memory}

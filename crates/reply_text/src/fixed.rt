@@ -43,18 +43,30 @@ fn whole(end: FixedEnd) -> &'static [u8]
     ensures { result.now ≡ fixed_head end ++ fixed_body end }
 {
     match end {
-        FixedEnd::BadRequest => b"HTTP/1.1 400 Bad Request\r\nContent-Type: text/plain; charset=UTF-8\r\nX-Less: request\r\nContent-Length: 16\r\nConnection: close\r\n\r\n400 Bad Request\n",
-        FixedEnd::NoLength => b"HTTP/1.1 411 Length Required\r\nContent-Type: text/plain; charset=UTF-8\r\nX-Less: request\r\nContent-Length: 20\r\nConnection: close\r\n\r\n411 Length Required\n",
-        FixedEnd::TooLarge => b"HTTP/1.1 413 Payload Too Large\r\nContent-Type: text/plain; charset=UTF-8\r\nX-Less: request\r\nContent-Length: 22\r\nConnection: close\r\n\r\n413 Payload Too Large\n",
-        FixedEnd::NotImplemented => b"HTTP/1.1 501 Not Implemented\r\nContent-Type: text/plain; charset=UTF-8\r\nX-Less: request\r\nContent-Length: 20\r\nConnection: close\r\n\r\n501 Not Implemented\n",
-        FixedEnd::NotFound => b"HTTP/1.1 404 Not Found\r\nContent-Type: text/plain; charset=UTF-8\r\nX-Less: request\r\nContent-Length: 14\r\nConnection: close\r\n\r\n404 Not Found\n",
-        FixedEnd::NoSlot => b"HTTP/1.1 503 Service Unavailable\r\nContent-Type: text/plain; charset=UTF-8\r\nX-Less: sessions\r\nContent-Length: 24\r\nConnection: close\r\n\r\n503 Service Unavailable\n",
-        FixedEnd::TablesSpent => b"HTTP/1.1 503 Service Unavailable\r\nContent-Type: text/plain; charset=UTF-8\r\nX-Less: spent\r\nContent-Length: 24\r\nConnection: close\r\n\r\n503 Service Unavailable\n",
-        FixedEnd::Store => b"HTTP/1.1 500 Internal Server Error\r\nContent-Type: text/plain; charset=UTF-8\r\nX-Less: store\r\nContent-Length: 26\r\nConnection: close\r\n\r\n500 Internal Server Error\n",
-        FixedEnd::Log => b"HTTP/1.1 500 Internal Server Error\r\nContent-Type: text/plain; charset=UTF-8\r\nX-Less: log\r\nContent-Length: 26\r\nConnection: close\r\n\r\n500 Internal Server Error\n",
-        FixedEnd::Ids => b"HTTP/1.1 500 Internal Server Error\r\nContent-Type: text/plain; charset=UTF-8\r\nX-Less: ids\r\nContent-Length: 26\r\nConnection: close\r\n\r\n500 Internal Server Error\n",
-        FixedEnd::Clock => b"HTTP/1.1 500 Internal Server Error\r\nContent-Type: text/plain; charset=UTF-8\r\nX-Less: clock\r\nContent-Length: 26\r\nConnection: close\r\n\r\n500 Internal Server Error\n",
-        FixedEnd::Memory => b"HTTP/1.1 507 Insufficient Storage\r\nContent-Type: text/plain; charset=UTF-8\r\nX-Less: memory\r\nContent-Length: 25\r\nConnection: close\r\n\r\n507 Insufficient Storage\n",
+        FixedEnd::BadRequest =>
+            b"HTTP/1.1 400 Bad Request\r\nContent-Type: text/plain; charset=UTF-8\r\nX-Less: request\r\nContent-Length: 16\r\nConnection: close\r\n\r\n400 Bad Request\n",
+        FixedEnd::NoLength =>
+            b"HTTP/1.1 411 Length Required\r\nContent-Type: text/plain; charset=UTF-8\r\nX-Less: request\r\nContent-Length: 20\r\nConnection: close\r\n\r\n411 Length Required\n",
+        FixedEnd::TooLarge =>
+            b"HTTP/1.1 413 Payload Too Large\r\nContent-Type: text/plain; charset=UTF-8\r\nX-Less: request\r\nContent-Length: 22\r\nConnection: close\r\n\r\n413 Payload Too Large\n",
+        FixedEnd::NotImplemented =>
+            b"HTTP/1.1 501 Not Implemented\r\nContent-Type: text/plain; charset=UTF-8\r\nX-Less: request\r\nContent-Length: 20\r\nConnection: close\r\n\r\n501 Not Implemented\n",
+        FixedEnd::NotFound =>
+            b"HTTP/1.1 404 Not Found\r\nContent-Type: text/plain; charset=UTF-8\r\nX-Less: request\r\nContent-Length: 14\r\nConnection: close\r\n\r\n404 Not Found\n",
+        FixedEnd::NoSlot =>
+            b"HTTP/1.1 503 Service Unavailable\r\nContent-Type: text/plain; charset=UTF-8\r\nX-Less: sessions\r\nContent-Length: 24\r\nConnection: close\r\n\r\n503 Service Unavailable\n",
+        FixedEnd::TablesSpent =>
+            b"HTTP/1.1 503 Service Unavailable\r\nContent-Type: text/plain; charset=UTF-8\r\nX-Less: spent\r\nContent-Length: 24\r\nConnection: close\r\n\r\n503 Service Unavailable\n",
+        FixedEnd::Store =>
+            b"HTTP/1.1 500 Internal Server Error\r\nContent-Type: text/plain; charset=UTF-8\r\nX-Less: store\r\nContent-Length: 26\r\nConnection: close\r\n\r\n500 Internal Server Error\n",
+        FixedEnd::Log =>
+            b"HTTP/1.1 500 Internal Server Error\r\nContent-Type: text/plain; charset=UTF-8\r\nX-Less: log\r\nContent-Length: 26\r\nConnection: close\r\n\r\n500 Internal Server Error\n",
+        FixedEnd::Ids =>
+            b"HTTP/1.1 500 Internal Server Error\r\nContent-Type: text/plain; charset=UTF-8\r\nX-Less: ids\r\nContent-Length: 26\r\nConnection: close\r\n\r\n500 Internal Server Error\n",
+        FixedEnd::Clock =>
+            b"HTTP/1.1 500 Internal Server Error\r\nContent-Type: text/plain; charset=UTF-8\r\nX-Less: clock\r\nContent-Length: 26\r\nConnection: close\r\n\r\n500 Internal Server Error\n",
+        FixedEnd::Memory =>
+            b"HTTP/1.1 507 Insufficient Storage\r\nContent-Type: text/plain; charset=UTF-8\r\nX-Less: memory\r\nContent-Length: 25\r\nConnection: close\r\n\r\n507 Insufficient Storage\n",
     }
 }
 

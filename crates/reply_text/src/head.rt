@@ -20,7 +20,11 @@ fn phrase_of(code: u16) -> &'static str
 
 #[tactic(auto, unfolding(crate::specs::Replies::head_front))]
 /// Appends the status line and the content type.
-pub(crate) fn append_front(out: &mut Vec<u8>, code: u16, content_type: &[u8]) -> Result<(), AllocError>
+pub(crate) fn append_front(
+    out: &mut Vec<u8>,
+    code: u16,
+    content_type: &[u8],
+) -> Result<(), AllocError>
     ensures { OnOk result (out.new.items ≡ out.old.items ++ head_front code content_type.now) }
 {
     let mut digits = Buffer::new();

@@ -1,0 +1,6 @@
+pub mod Requests
+pub mod Heads
+pub mod Found
+pub mod Scans
+pub mod Checks
+pub mod Reading
