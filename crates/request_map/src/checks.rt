@@ -1,6 +1,7 @@
 // The checks over a head, and over the body and the target.
-ghost use Rattle.std.specs.Prelude.{◌≡◌, ◌≤◌, true, false, ◌||◌, ◌==◌, nat_le, IsTrue, length, List, ℕ, IfOk, IfErr, Ok, Err, Some, None, map};
-ghost use Rattle.std.specs.List.{list_all, list_any};
+ghost use Rattle.std.specs.Prelude.{◌≡◌, true, codes};
+ghost use Rattle.std.specs.List.{list_all, list_any, find};
+ghost use Rattle.std.specs.Option.{option_map};
 ghost use Rattle.std.specs.Char.{is_ascii_digit};
 ghost use Rattle.std.specs.Str.Parse.{digits_value};
 ghost use Rattle.reply_text.specs.Headers.{is_named};
@@ -65,9 +66,10 @@ fn is_length(text: &[u8]) -> bool
     are_digits(text)
 }
 
+#[tactic(auto, using(crate::proofs::Lengths::read_digit, crate::proofs::Lengths::read_more, crate::proofs::Lengths::passes))]
 // The number that digits write, or a refusal where it is above the limit of a body.
 fn length_within(digits: &[u8]) -> Result<usize, RequestFault>
-    requires { IsTrue (list_all is_ascii_digit digits.now) }
+    requires { list_all is_ascii_digit digits.now ≡ true }
     ensures { result ≡ spec.length_within (digits_value 10 digits.now) }
 {
     let mut size: usize = 0;
@@ -90,21 +92,26 @@ fn length_of(text: &[u8]) -> Result<usize, RequestFault>
     Ok(size)
 }
 
+fn first_named<'h>(headers: &'h [HeaderLine], name: &[u8]) -> Option<&'h HeaderLine>
+    ensures { option_map (λ header. header.now) result ≡ find (is_named name.now) headers.now }
+{
+    headers.iter().find(|header| header.is_named(name))
+}
+
 fn length_among(post: bool, headers: &[HeaderLine]) -> Result<usize, RequestFault>
     ensures { result ≡ spec.length_among post headers.now }
 {
     if count_named(headers, b"content-length") > 1 {
         return Err(RequestFault::BadRequest);
     }
-    match headers.iter().find(|header| header.is_named(b"content-length")) {
-        Some(header) => length_of(header.value()),
-        None => {
-            if post {
-                return Err(RequestFault::NoLength);
-            }
-            Ok(0)
+    let Some(header) = first_named(headers, b"content-length") else {
+        if post {
+            return Err(RequestFault::NoLength);
         }
-    }
+        return Ok(0);
+    };
+    let size = length_of(header.value())?;
+    Ok(size)
 }
 
 /// How long the body is that belongs to a head, in bytes, or the first refusal.

@@ -1,8 +1,8 @@
 // Why a request was not read.
 ghost use Rattle.std.specs.Prelude.{◌≡◌};
+ghost use Rattle.request_map.specs.declared.fault.RequestFault.TheVariants.{Memory, Link};
 
 use less_outside::OutsideFault;
-use reply_text::FixedEnd;
 use std::alloc::AllocError;
 
 /// Why a request was not read. `Link` comes only where the count of the link's reads rose; `Memory` may come at any time.

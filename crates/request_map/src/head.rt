@@ -60,6 +60,7 @@ fn headers_at(alloc: Global, bytes: &[u8], spans: &[HeaderSpan]) -> Result<Vec<H
 pub fn parse_head(alloc: Global, bytes: &[u8]) -> Result<ParsedHead, RequestFault>
     requires { length bytes.now ≤ MAX_HEAD_BYTES }
     ensures parsed { IfOk result (IsParsed bytes.now) }
+    ensures within { IfOk result (λ parsed. parsed.size ≤ length bytes.now) }
     ensures none { IfErr result (λ fault. fault ≢ RequestFault.Memory → (fault ≡ RequestFault.BadRequest) × HasNoHead bytes.now) }
 {
     let mut spans = [EMPTY_HEADER_SPAN; MAX_HEADERS];

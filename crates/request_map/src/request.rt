@@ -1,5 +1,5 @@
 // A request that was read, and the checks over all of it.
-ghost use Rattle.std.specs.Prelude.{◌≡◌, ◌≢◌, ◌≤◌, length, Err};
+ghost use Rattle.std.specs.Prelude.{◌≡◌, ◌≢◌, ◌≤◌, length, take, Err};
 ghost use Rattle.request_map.specs.Checks.{finished};
 ghost use Rattle.request_map.specs.Heads.{parsed_head};
 ghost use Rattle.request_map.specs.Reading.{IsAnswer};
@@ -8,7 +8,7 @@ ghost use Rattle.reply_text.specs.Headers.{Header};
 use crate::checks::body_length;
 use crate::fault::RequestFault;
 use crate::head::{ParsedHead, parse_head};
-use crate::{MAX_BODY_BYTES, MAX_HEAD_BYTES};
+use crate::MAX_HEAD_BYTES;
 use reply_text::HeaderLine;
 use std::alloc::Global;
 use std::marker::Model;
@@ -96,15 +96,24 @@ pub(crate) fn finish(
     })
 }
 
+// At most so many bytes from the front.
+#[tactic(auto, using(std::proofs::lemmas::List::take_min))]
+fn front_of(bytes: &[u8], most: usize) -> &[u8]
+    ensures value { result.now ≡ take most bytes.now }
+    ensures short { length result.now ≤ most }
+    ensures within { length result.now ≤ length bytes.now }
+{
+    bytes.split_at(most.min(bytes.len())).0
+}
+
 /// The request that the bytes begin with. Bytes behind it are ignored.
 pub fn request_of(alloc: Global, bytes: &[u8]) -> Result<WebRequest, RequestFault>
     ensures { result ≢ Err RequestFault.Memory → IsAnswer bytes.now result }
 {
-    let front = bytes.split_at(bytes.len().min(MAX_HEAD_BYTES)).0;
-    let head = parse_head(alloc, front)?;
+    let head = parse_head(alloc, front_of(bytes, MAX_HEAD_BYTES))?;
     let size = body_length(&head)?;
     let rest = bytes.split_at(head.size).1;
-    let body = Vec::from_slice(alloc, rest.split_at(rest.len().min(size)).0)?;
+    let body = Vec::from_slice(alloc, front_of(rest, size))?;
     let request = finish(head, size, body)?;
     Ok(request)
 }
