@@ -1,3 +1,5 @@
 pub mod Lengths
 pub mod Fronts
 pub mod Answering
+pub mod Scanning
+pub mod Links

@@ -4,12 +4,12 @@
 mod checks;
 mod fault;
 mod head;
-
+mod reading;
 mod request;
 mod scan;
 
 pub use fault::RequestFault;
-
+pub use reading::read_request;
 pub use request::{WebRequest, request_of};
 
 /// The greatest length of a head, in bytes, empty lines in front of it among them.
