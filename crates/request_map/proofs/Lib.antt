@@ -3,3 +3,4 @@ pub mod Fronts
 pub mod Answering
 pub mod Scanning
 pub mod Links
+pub mod ReadAnswers

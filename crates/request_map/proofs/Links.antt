@@ -69,8 +69,8 @@ scan_more (Some input) (Some left) None bytes scan byte s n e = absurd n
 scan_more (Some input) (Some left) (Some now) bytes scan byte s n e = record {
   split = next_split input bytes left now byte s.split n;
   goes_on =
-    let here : until_end scan left ≡ byte ∷ until_end (scan_after scan byte) now = rw (n, e) refl in
-    s.goes_on ∙ ap (λ l. bytes ++ l) here ∙ sym (append_assoc bytes (byte ∷ []) (until_end (scan_after scan byte) now));
+      let here : until_end scan left ≡ byte ∷ until_end (scan_after scan byte) now = rw (n, e) refl in
+      s.goes_on ∙ ap (λ l. bytes ++ l) here ∙ sym (append_assoc bytes (byte ∷ []) (until_end (scan_after scan byte) now));
 }
 
 -- a scan that has ended, or that has nothing left, found what is read
@@ -81,9 +81,9 @@ scan_ends (Some input) (Some left) None bytes scan byte s n e l = absurd n
 scan_ends (Some input) (Some left) (Some now) bytes scan byte s n e l = record {
   split = next_split input bytes left now byte s.split n;
   part =
-    let here : until_end scan left ≡ byte ∷ [] = rw (n, e) refl in
-    let whole : until_end Blank input ≡ bytes ++ byte ∷ [] = s.goes_on ∙ ap (λ l. bytes ++ l) here in
-    rw whole (sym (take_all MAX_HEAD_BYTES (bytes ++ byte ∷ []) (omega (arith, length-append bytes (byte ∷ []), l))));
+      let here : until_end scan left ≡ byte ∷ [] = rw (n, e) refl in
+      let whole : until_end Blank input ≡ bytes ++ byte ∷ [] = s.goes_on ∙ ap (λ l. bytes ++ l) here in
+      rw whole (sym (take_all MAX_HEAD_BYTES (bytes ++ byte ∷ []) (omega (arith, length-append bytes (byte ∷ []), l))));
 }
 
 pub scan_runs_out : (old mid new : Option (List ℕ)) (bytes : List ℕ) (scan : Scan) → IsScanning old mid bytes scan → HasNext mid new None → length bytes ≤ MAX_HEAD_BYTES → HasReadHead old new bytes
@@ -93,9 +93,9 @@ scan_runs_out (Some input) (Some left) None bytes scan s n l = absurd n
 scan_runs_out (Some input) (Some left) (Some now) bytes scan s n l = record {
   split = s.split ∙ ap (λ l. bytes ++ l) (n.before ∙ sym n.after);
   part =
-    let here : until_end scan left ≡ [] = rw n.before refl in
-    let whole : until_end Blank input ≡ bytes = s.goes_on ∙ ap (λ l. bytes ++ l) here ∙ append-nil bytes in
-    rw whole (sym (take_all MAX_HEAD_BYTES bytes l));
+      let here : until_end scan left ≡ [] = rw n.before refl in
+      let whole : until_end Blank input ≡ bytes = s.goes_on ∙ ap (λ l. bytes ++ l) here ∙ append-nil bytes in
+      rw whole (sym (take_all MAX_HEAD_BYTES bytes l));
 }
 
 -- a scan that came to the limit

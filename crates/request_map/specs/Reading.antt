@@ -22,7 +22,7 @@ pub data IsAnswer (input : List ℕ) (answer : Result Request RequestFault) : Ty
 pub data IsReading (input : List ℕ) (answer : Result Request RequestFault) (taken : ℕ) : Type 0 where
   headless : HasNoHead input → answer ≡ Err BadRequest → taken ≡ length (head_part input) → IsReading input answer taken
   headed : (head : RequestHead) (rest : List ℕ) → BeginsWith input head rest → answer ≡ answer_of (head_of head) rest
-    → taken ≡ length (print_request head) + body_taken (body_length (head_of head)) → IsReading input answer taken
+      → taken ≡ length (print_request head) + body_taken (body_length (head_of head)) → IsReading input answer taken
 
 -- what is left of a link after bytes were taken from its front
 pub record Took (input : List ℕ) (left : Option (List ℕ)) (answer : Result Request RequestFault) : Type 0 where

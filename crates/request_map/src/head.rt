@@ -44,7 +44,11 @@ fn header_at(alloc: Global, bytes: &[u8], span: &HeaderSpan) -> Result<HeaderLin
     Ok(HeaderLine::new(name, value))
 }
 
-fn headers_at(alloc: Global, bytes: &[u8], spans: &[HeaderSpan]) -> Result<Vec<HeaderLine>, AllocError>
+fn headers_at(
+    alloc: Global,
+    bytes: &[u8],
+    spans: &[HeaderSpan],
+) -> Result<Vec<HeaderLine>, AllocError>
     requires { All (IsHeaderWithin (length bytes.now)) spans.now }
     ensures { IfOk result (λ lines. lines.items ≡ map header_of (map (header_bytes bytes.now) spans.now)) }
 {

@@ -5,10 +5,10 @@ ghost use Rattle.request_map.specs.Heads.{parsed_head};
 ghost use Rattle.request_map.specs.Reading.{IsAnswer};
 ghost use Rattle.reply_text.specs.Headers.{Header};
 
+use crate::MAX_HEAD_BYTES;
 use crate::checks::body_length;
 use crate::fault::RequestFault;
 use crate::head::{ParsedHead, parse_head};
-use crate::MAX_HEAD_BYTES;
 use reply_text::HeaderLine;
 use std::alloc::Global;
 use std::marker::Model;
