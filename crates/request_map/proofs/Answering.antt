@@ -1,9 +1,8 @@
 -- What a request that was parsed answers.
-use Rattle.std.proofs.Common.{◌≡◌, ◌≢◌, ℕ, ◌≤◌, List, ◌++◌, length, take, drop, sym, ap, ◌∙◌, subst, Result, Ok, Err}
+use Rattle.std.proofs.Common.{◌≡◌, ℕ, List, ◌++◌, take, drop, sym, ap, ◌∙◌, Result, Ok, Err}
 use Rattle.std.proofs.lemmas.List.{take-append-drop}
-use Rattle.httparse.specs.Grammar.{RequestHead, print_request}
-use Rattle.request_map.specs.Requests.{Head, Request}
-use Rattle.request_map.specs.Heads.{BeginsWith, HasNoHead, IsParsed, parsed_head, head_of}
+use Rattle.request_map.specs.Requests.{Request}
+use Rattle.request_map.specs.Heads.{BeginsWith, HasNoHead, IsParsed, parsed_head}
 use Rattle.request_map.specs.Checks.{answer_of, answer_at, body_length, finished}
 use Rattle.request_map.specs.Reading.{IsAnswer, headless, headed}
 use Rattle.request_map.specs.declared.head.ParsedHead.{ParsedHead}

@@ -1,10 +1,8 @@
 -- Heads at the front of an input, and at the front of its first bytes.
-use Rattle.std.proofs.Common.{◌≡◌, ℕ, ◌+◌, ◌-◌, ◌<◌, ◌≤◌, List, ◌++◌, length, take, drop, sym, ap, ◌∙◌, arith, append_assoc, length-append}
-use Rattle.std.proofs.lemmas.Grind.{common_steps}
-use Rattle.std.proofs.lemmas.List.{take-append-drop}
+use Rattle.std.proofs.Common.{◌≡◌, ℕ, ◌+◌, ◌-◌, ◌≤◌, List, ◌++◌, length, take, drop, ap, ◌∙◌, arith, append_assoc, length-append}
 use Rattle.std.proofs.Math.Seq.{take-append-add, drop-append_seam}
 use Rattle.httparse.specs.Grammar.{RequestHead, print_request}
-use Rattle.request_map.specs.Heads.{BeginsWith, HasNoHead, IsParsed}
+use Rattle.request_map.specs.Heads.{BeginsWith, HasNoHead}
 use Rattle.request_map.specs.declared.TheConstants.{MAX_HEAD_BYTES}
 
 -- a head of the first bytes is a head of all

@@ -1,17 +1,16 @@
 -- What reads of a link come to, one after another.
-use Rattle.std.proofs.Common.{◌≡◌, ℕ, ◌+◌, ◌-◌, ◌^◌, ◌<◌, ◌≤◌, min, Bool, true, false, List, [], ◌∷◌, ◌++◌, length, take, drop, get_or, refl, sym, ap, ◌∙◌, arith, append_assoc, length-append, length-take, length-drop, inl, inr, append-nil}
+use Rattle.std.proofs.Common.{◌≡◌, ℕ, ◌+◌, ◌-◌, ◌<◌, ◌≤◌, true, false, List, [], ◌∷◌, ◌++◌, length, take, drop, get_or, refl, sym, ap, ◌∙◌, arith, append_assoc, length-append, length-take, length-drop, inl, inr, append-nil}
 use Rattle.std.specs.Prelude.{Option, None, Some}
 use Rattle.std.proofs.lemmas.List.{take_all, drop_all, length-take-le}
 use Rattle.std.proofs.Math.Seq.{take-append_seam, drop-append_seam, take-append-add}
 use borrow.Rule.Slice.PartMut.{put_mid, post_of}
 use Rattle.std.proofs.KnownBytes.{Consumes-trans}
-use Rattle.std.proofs.lemmas.Grind.{common_steps}
 use Rattle.std.specs.Io.KnownBytes.{Consumes}
-use Rattle.less_terms.specs.Causes.{Rose, Steady}
+use Rattle.less_terms.specs.Causes.{Rose}
 use Rattle.less_outside.specs.Told.{Stays}
 use Rattle.less_outside.specs.Link.{EndsExactly}
-use Rattle.request_map.specs.Reading.{HasNext, IsDone, OnlyReads, IsScanning, Scans, HasReadHead, ReadHead, IsFilled, HasReadBody, ReadBody}
-use Rattle.request_map.specs.Scans.{scan_after, is_ended, until_end, head_part}
+use Rattle.request_map.specs.Reading.{HasNext, OnlyReads, IsScanning, HasReadHead, IsFilled, HasReadBody}
+use Rattle.request_map.specs.Scans.{scan_after, is_ended, until_end}
 use Rattle.request_map.specs.declared.scan.Scan.{Scan}
 use Rattle.request_map.specs.declared.scan.Scan.TheVariants.{Blank}
 use Rattle.request_map.specs.declared.TheConstants.{MAX_HEAD_BYTES}

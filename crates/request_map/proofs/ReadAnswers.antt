@@ -9,9 +9,8 @@ use Rattle.std.specs.Str.Parse.{digits_value}
 use Rattle.reply_text.specs.Headers.{Header, is_named}
 use Rattle.request_map.specs.Requests.{Head, Request}
 use Rattle.request_map.specs.Heads.{BeginsWith, HasNoHead, IsParsed, parsed_head, head_of}
-use Rattle.request_map.specs.Scans.{head_part}
 use Rattle.request_map.specs.Checks.{answer_of, answer_at, body_length, body_taken, finished, length_told, length_of, length_within, length_among, is_length, is_post, is_implemented, is_hosted, count_named}
-use Rattle.request_map.specs.Reading.{IsReading, headless, headed, Took, HasRead, HasReadHead, ReadHead, HasReadBody, ReadBody, IsOutside}
+use Rattle.request_map.specs.Reading.{headless, headed, Took, HasRead, HasReadHead, ReadHead, HasReadBody, IsOutside}
 use Rattle.request_map.specs.declared.head.ParsedHead.{ParsedHead}
 use Rattle.request_map.specs.declared.fault.RequestFault.{RequestFault}
 use Rattle.request_map.specs.declared.fault.RequestFault.TheVariants.{BadRequest, NoLength, TooLarge, NotImplemented, Link, Memory}

@@ -1,15 +1,14 @@
 -- The scan of a text that begins with a head ends exactly where the head does.
-use Rattle.std.proofs.Common.{◌≡◌, ◌≢◌, ℕ, ◌+◌, ◌<◌, ◌≤◌, Bool, true, false, ◌||◌, ◌==◌, List, [], ◌∷◌, ◌++◌, length, take, refl, sym, ap, ◌∙◌, subst, arith, append_assoc, IsTrue, if◌then◌else◌, flat_map, codes}
-use Rattle.std.proofs.lemmas.Grind.{common_steps}
+use Rattle.std.proofs.Common.{◌≡◌, ℕ, ◌+◌, ◌<◌, ◌≤◌, Bool, false, ◌==◌, List, [], ◌∷◌, ◌++◌, length, refl, sym, ap, ◌∙◌, arith, append_assoc, IsTrue, flat_map}
 use Rattle.std.proofs.lemmas.Bool.{ne_eqb, false≢true}
 use Rattle.std.proofs.lemmas.List.{take_all}
 use Rattle.std.proofs.lemmas.List.Elements.{All-head, All-tail}
 use Rattle.std.specs.List.{All}
-use Rattle.httparse.specs.Grammar.{AllPass, IsToken, is_token_byte, is_uri_byte, is_value_byte, LineEnd, crlf, lf, print_end, print_blank, print_version, Field, IsField, print_field, RequestHead, IsRequestHead, print_request}
-use Rattle.request_map.specs.Heads.{BeginsWith, HasNoHead}
+use Rattle.httparse.specs.Grammar.{AllPass, is_token_byte, is_uri_byte, is_value_byte, LineEnd, crlf, lf, print_end, print_blank, print_version, Field, IsField, print_field, RequestHead, IsRequestHead, print_request}
+use Rattle.request_map.specs.Heads.{BeginsWith}
 use Rattle.request_map.specs.Scans.{scan_after, is_ended, until_end, head_part}
 use Rattle.request_map.specs.declared.scan.Scan.{Scan}
-use Rattle.request_map.specs.declared.scan.Scan.TheVariants.{Blank, Line, Fresh, Return, Ended}
+use Rattle.request_map.specs.declared.scan.Scan.TheVariants.{Blank, Line, Fresh}
 use Rattle.request_map.specs.declared.TheConstants.{MAX_HEAD_BYTES}
 
 -- ---- scans that go on

@@ -1,5 +1,5 @@
 -- What the parser finds at the front of bytes.
-use Rattle.std.specs.Prelude.{◌≡◌, ℕ, List, length, drop}
+use Rattle.std.specs.Prelude.{ℕ, List, drop}
 use Rattle.httparse.specs.Grammar.{RequestHead}
 use Rattle.httparse.specs.Spans.{IsRequestAt, IsRequestWithin}
 use Rattle.httparse.specs.declared.spans.HeaderSpan.{HeaderSpan}

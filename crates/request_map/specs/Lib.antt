@@ -4,3 +4,4 @@ pub mod Found
 pub mod Scans
 pub mod Checks
 pub mod Reading
+pub mod Routes

@@ -1,5 +1,5 @@
 -- What a request that is read answers, and what it takes from what is left of a link.
-use Rattle.std.specs.Prelude.{◌≡◌, ◌≢◌, ℕ, ◌+◌, ◌⊎◌, ⊤, List, [], ◌∷◌, ◌++◌, length, take, drop, Option, None, Some, Result, Ok, Err}
+use Rattle.std.specs.Prelude.{◌≡◌, ◌≢◌, ℕ, ◌+◌, ◌⊎◌, ⊤, List, [], ◌∷◌, ◌++◌, length, take, drop, Option, None, Some, Result, Err}
 use Rattle.std.specs.Io.KnownBytes.{Consumes}
 use Rattle.less_terms.specs.Causes.{Steady}
 use Rattle.less_outside.specs.Told.{Stays}

@@ -6,11 +6,13 @@ mod fault;
 mod head;
 mod reading;
 mod request;
+mod routes;
 mod scan;
 
 pub use fault::RequestFault;
 pub use reading::read_request;
 pub use request::{WebRequest, request_of};
+pub use routes::{Route, file_path, route_of};
 
 /// The greatest length of a head, in bytes, empty lines in front of it among them.
 pub const MAX_HEAD_BYTES: usize = 16_384;

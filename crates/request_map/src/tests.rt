@@ -227,3 +227,65 @@ fn nothing_is_read_of_the_body_where_the_head_is_refused(rt: HostRuntime) -> Res
     assert_eq!(rt; link.rest(), b"ab".as_slice());
     Ok(())
 }
+
+#[test]
+fn targets_name_files(rt: HostRuntime) -> Result<(), Fail> {
+    let alloc = rt.alloc();
+    let rows: [(&[u8], &[u8]); 8] = [
+        (b"/", b"index.php"),
+        (b"/?a=/x", b"index.php"),
+        (b"/a/", b"a/index.php"),
+        (b"/a.css", b"a.css"),
+        (b"/a%2Fb%3F.php?c?d", b"a/b?.php"),
+        (b"//x", b"/x"),
+        (b"/%", b"%"),
+        (b"/a+b", b"a+b"),
+    ];
+    for (target, path) in rows {
+        assert_eq!(rt; file_path(alloc, target)?.as_slice(), path);
+    }
+    Ok(())
+}
+
+#[test]
+fn a_request_asks_for_a_script_or_a_static_file(rt: HostRuntime) -> Result<(), Fail> {
+    let alloc = rt.alloc();
+    let scripts = [
+        String::from_str(alloc, "index.php")?,
+        String::from_str(alloc, "lib/a.php")?,
+    ];
+    let mut statics = Vec::new(alloc);
+    statics.push((
+        String::from_str(alloc, "a.css")?,
+        Vec::from_slice(alloc, b"b{}")?,
+    ))?;
+    let Ok(request) = request_of(alloc, b"GET /a%2Ecss HTTP/1.0\r\n\r\n") else {
+        assert!(rt; false);
+        return Ok(());
+    };
+    assert!(rt;
+        matches!(
+            route_of(alloc, &scripts, &statics, &request)?,
+            Route::Static(0)
+        )
+    );
+    let Ok(request) = request_of(alloc, PLAIN) else {
+        assert!(rt; false);
+        return Ok(());
+    };
+    match route_of(alloc, &scripts, &statics, &request)? {
+        Route::Script(path) => assert_eq!(rt; path.as_str(), "index.php"),
+        _ => assert!(rt; false),
+    }
+    let Ok(request) = request_of(alloc, b"GET /no HTTP/1.0\r\n\r\n") else {
+        assert!(rt; false);
+        return Ok(());
+    };
+    assert!(rt;
+        matches!(
+            route_of(alloc, &scripts, &statics, &request)?,
+            Route::NotFound
+        )
+    );
+    Ok(())
+}

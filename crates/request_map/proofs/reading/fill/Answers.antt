@@ -1,5 +1,4 @@
-use Rattle.std.proofs.Common.{◌≡◌, ◌+◌, ◌-◌, ◌≤◌, length, sym, arith}
-use Rattle.std.proofs.lemmas.Grind.{common_steps}
+use Rattle.std.proofs.Common.{arith}
 use Rattle.request_map.proofs.Links.{piece_put, piece_within, only_trans}
 use Rattle.request_map.proofs.reading.fill.Goals as goal
 

@@ -1,4 +1,4 @@
-use Rattle.std.proofs.Common.{◌≡◌, ◌≤◌, ◌-◌, length, take}
+use Rattle.std.proofs.Common.{◌≤◌, ◌-◌, length, take}
 use Rattle.std.specs.Io.KnownBytes.{Consumes}
 use Rattle.request_map.specs.Reading.{OnlyReads}
 use Rattle.request_map.proofs.reading.fill.Given as goal

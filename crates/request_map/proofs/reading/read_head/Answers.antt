@@ -1,4 +1,4 @@
-use Rattle.std.proofs.Common.{◌≡◌, ◌+◌, ◌≤◌, true, false, length, arith, refl, ap, sym, ◌∙◌, length-append}
+use Rattle.std.proofs.Common.{◌≡◌, true, false, length, arith, ap, sym, ◌∙◌, length-append}
 use Rattle.request_map.specs.Scans.{scan_after, is_ended}
 use Rattle.request_map.proofs.Links.{scan_starts, scan_more, scan_ends, scan_runs_out, scan_stops, only_refl, only_trans, rose_later}
 use Rattle.request_map.proofs.reading.read_head.Goals as goal

@@ -1,6 +1,5 @@
-use Rattle.std.proofs.Common.{◌≡◌, ◌≤◌, false, length}
+use Rattle.std.proofs.Common.{◌≡◌, length}
 use Rattle.request_map.specs.Reading.{IsScanning, OnlyReads}
-use Rattle.request_map.specs.Scans.{is_ended}
 use Rattle.request_map.proofs.reading.read_head.Given as goal
 
 abbrev pub invariant-head : goal.invariant-head

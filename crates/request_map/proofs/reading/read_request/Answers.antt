@@ -1,4 +1,4 @@
-use Rattle.std.proofs.Common.{rules, ◌≡◌, sym, ap, ◌∙◌, Err}
+use Rattle.std.proofs.Common.{rules, ◌≡◌, sym, Err}
 use Rattle.request_map.specs.Heads.{parsed_head}
 use Rattle.request_map.specs.declared.fault.RequestFault.TheVariants.{Link}
 use Rattle.request_map.proofs.ReadAnswers.{head_failed, refused_read, judged_read, outside_read, no_link}
