@@ -1,0 +1,6 @@
+pub mod Lengths
+pub mod Fronts
+pub mod Answering
+pub mod Scanning
+pub mod Links
+pub mod ReadAnswers
