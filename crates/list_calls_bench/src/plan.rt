@@ -15,5 +15,9 @@ pub fn parse(line: &str) -> Option<Plan> {
     let call = list_call_named(words.next()?)?;
     let entries = words.next()?.parse::<u32>().ok()?;
     let times = words.next()?.parse::<u32>().ok()?;
-    Some(Plan { call, entries, times })
+    Some(Plan {
+        call,
+        entries,
+        times,
+    })
 }

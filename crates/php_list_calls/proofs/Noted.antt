@@ -4,6 +4,10 @@ use Rattle.order_map.specs.declared.key.Key.{Key}
 use Rattle.order_map.specs.Keys.{same_key, has_key}
 use Rattle.order_map.specs.Arrays.{keys_of, look, put}
 
+within : (h : Bool) (k : Key) (ks ls : List Key) → k ∷ (if h then ks else ls) ≡ (if h then k ∷ ks else k ∷ ls)
+within true k ks ls = refl
+within false k ks ls = refl
+
 module _ {V : Type 0} where
   looked_by : (b : Bool) (v : V) (o : Option V) (c : Bool) → is_some o ≡ c → is_some (if b then Some v else o) ≡ (b || c)
   looked_by true v o c e = refl
@@ -12,10 +16,6 @@ module _ {V : Type 0} where
   pub looked : (key : Key) (ps : List (Key × V)) → is_some (look key ps) ≡ has_key key (keys_of ps)
   looked key [] = refl
   looked key (p ∷ ps) = looked_by (same_key p.0 key) p.1 (look key ps) (has_key key (keys_of ps)) (looked key ps)
-
-  within : (h : Bool) (k : Key) (ks ls : List Key) → k ∷ (if h then ks else ls) ≡ (if h then k ∷ ks else k ∷ ls)
-  within true k ks ls = refl
-  within false k ks ls = refl
 
   noted_by : (b h : Bool) (key k : Key) (x v : V) (ps : List (Key × V)) → keys_of (put key v ps) ≡ (if h then keys_of ps else keys_of ps ++ key ∷ [])
       → keys_of (if b then (k, v) ∷ ps else (k, x) ∷ put key v ps) ≡ (if (b || h) then k ∷ keys_of ps else k ∷ (keys_of ps ++ key ∷ []))

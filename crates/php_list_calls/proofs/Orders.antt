@@ -110,9 +110,9 @@ pub ordered : {K : Type 0} (rank : K → Data) (lt : K → K → Bool) → ((x y
 ordered rank lt h way part es rs e =
     seconds rank (sort_by (earlier lt way) rs)
     ∙ ap (λ l. map (λ p. p.1) l)
-      (sort-map (λ r. (rank r.rank, lent_item r.thing)) (earlier lt way) (rank_less way) (same-ranks rank lt h way) rs
-      ∙ ap (sort_by (rank_less way)) e
-      ∙ sym (sort-map (λ x. (ranked_by part x, x)) (before way part) (rank_less way) (same-items way part) es))
+    (sort-map (λ r. (rank r.rank, lent_item r.thing)) (earlier lt way) (rank_less way) (same-ranks rank lt h way) rs
+    ∙ ap (sort_by (rank_less way)) e
+    ∙ sym (sort-map (λ x. (ranked_by part x, x)) (before way part) (rank_less way) (same-items way part) es))
     ∙ second-items part (sort_by (before way part) es)
 
 -- ---- whether there is an order

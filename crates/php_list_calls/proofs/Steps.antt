@@ -141,9 +141,8 @@ run-begins m way n count p q =
     let z : count - 0 ≡ count = omega arith in
     (λ i. with_values (new-data m p q i) (run way n 0 (z i))) ∙ values-list [] (run way n 0 count)
 
-pub run-goes-on : (a b : ArrayData) (way : Direction) (m number : ℤ) (k n p : ℕ) → n ≡ suc p → number ≡ away way m k → b ≡ with_next (int number) a → with_values b (run way m (k + 1) p) ≡ with_values a (run way m k n)
-run-goes-on a b way m number k n p c e h =
-    ap (λ b. with_values b (run way m (k + 1) p)) h ∙ ap (λ z. with_values (with_next (int z) a) (run way m (k + 1) p)) e ∙ ap (λ n. with_values a (run way m k n)) (sym c)
+pub run-goes-on : (a b : ArrayData) (way : Direction) (m : ℤ) (k n p : ℕ) → n ≡ suc p → b ≡ with_next (int (away way m k)) a → with_values b (run way m (k + 1) p) ≡ with_values a (run way m k n)
+run-goes-on a b way m k n p c h = ap (λ b. with_values b (run way m (k + 1) p)) h ∙ ap (λ n. with_values a (run way m k n)) (sym c)
 
 -- ---- a next key that is raised
 

@@ -40,11 +40,7 @@ pub(crate) fn add_value(map: &mut OrderMap<Value>, value: Value) -> Result<(), A
 }
 
 // Sets a value under a key.
-pub(crate) fn set_value(
-    map: &mut OrderMap<Value>,
-    key: Key,
-    value: Value,
-) -> Result<(), AllocError>
+pub(crate) fn set_value(map: &mut OrderMap<Value>, key: Key, value: Value) -> Result<(), AllocError>
     ensures { OnOk result (array_of map.new ≡ spec.with_set key (data_of value) (array_of map.old)) }
 {
     let _old = map.set(key, value)?;
@@ -96,7 +92,10 @@ pub(crate) fn add_items(
 }
 
 // Adds the items of an array behind others.
-pub(crate) fn add_array(map: &mut OrderMap<Value>, array: &OrderMap<Value>) -> Result<(), AllocError>
+pub(crate) fn add_array(
+    map: &mut OrderMap<Value>,
+    array: &OrderMap<Value>,
+) -> Result<(), AllocError>
     ensures { OnOk result (array_of map.new ≡ spec.with_items (array_of map.old) (spec.items (array_of array.now))) }
 {
     let mut walk = Walk::new(array);

@@ -78,12 +78,8 @@ fn better(way: Extreme, m: i64, n: i64) -> i64
     ensures { result ≡ num.better way m n }
 {
     match way {
-        Extreme::Greatest => {
-            if m < n { n } else { m }
-        }
-        Extreme::Least => {
-            if n < m { n } else { m }
-        }
+        Extreme::Greatest => { if m < n { n } else { m } }
+        Extreme::Least => { if n < m { n } else { m } }
     }
 }
 
@@ -144,9 +140,16 @@ fn away(direction: Direction, from: i64, far: usize) -> Result<i64, AllocError>
     }
 }
 
-fn add_number(list: &mut OrderMap<Value>, number: i64) -> Result<(), AllocError>
-    ensures { OnOk result (array_of list.new ≡ with_next (int number) (array_of list.old)) }
+// Adds the number that is so far from another.
+fn add_away(
+    list: &mut OrderMap<Value>,
+    direction: Direction,
+    from: i64,
+    far: usize,
+) -> Result<(), AllocError>
+    ensures { OnOk result (array_of list.new ≡ with_next (int (num.away direction from far)) (array_of list.old)) }
 {
+    let number = away(direction, from, far)?;
     add_value(list, Value::Int(number))
 }
 
@@ -161,8 +164,7 @@ fn run(
 {
     let mut list = OrderMap::new(alloc);
     for far in 0..count {
-        let number = away(direction, from, far)?;
-        add_number(&mut list, number)?;
+        add_away(&mut list, direction, from, far)?;
     }
     Ok(list)
 }

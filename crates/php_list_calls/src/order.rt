@@ -128,10 +128,7 @@ fn in_way<K: Ord>(way: Way, ranked: &mut Vec<Ranked<K, Pair<'_>>>) -> Result<(),
 }
 
 // The pairs without their ranks.
-fn things<'a, K>(
-    alloc: Global,
-    ranked: &[Ranked<K, Pair<'a>>],
-) -> Result<Vec<Pair<'a>>, AllocError>
+fn things<'a, K>(alloc: Global, ranked: &[Ranked<K, Pair<'a>>]) -> Result<Vec<Pair<'a>>, AllocError>
     ensures { IfOk result (λ v. v.items ≡ map (λ r. r.thing) ranked.now) }
 {
     let mut pairs = Vec::with_capacity(alloc, ranked.len())?;

@@ -27,11 +27,7 @@ fn text_key(text: &ByteText) -> Result<Key, AllocError>
 }
 
 // Sets a key as the value of the key that a value stands for, where this is a number or a text.
-fn add_flipped(
-    map: &mut OrderMap<Value>,
-    key: &Key,
-    value: &Value,
-) -> Result<(), AllocError>
+fn add_flipped(map: &mut OrderMap<Value>, key: &Key, value: &Value) -> Result<(), AllocError>
     ensures { OnOk result (array_of map.new ≡ sets.with_flipped key.now (data_of value.now) (array_of map.old)) }
 {
     match value {

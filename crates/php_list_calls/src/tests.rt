@@ -1,5 +1,6 @@
 mod changes;
 mod reads;
+mod sums;
 
 use crate::{ListCall, list_call, list_call_named};
 use order_map::{ByteText, Key, OrderMap};

@@ -7,9 +7,9 @@ use Rattle.php_list_calls.proofs.Steps.{run-begins, run-goes-on}
 use Rattle.php_list_calls.proofs.numbers.run.Goals as goal
 
 pub loop-far-init : goal.loop-far-init
-loop-far-init c =
-    run-begins c.new-list.result c.args.direction c.args.from c.args.count c.new-list.ensures.pairs c.new-list.ensures.next
+loop-far-init c = run-begins c.new-list.result c.args.direction _ c.args.count c.new-list.ensures.pairs c.new-list.ensures.next
 
 pub loop-far-preserved : goal.loop-far-preserved
 loop-far-preserved c =
-    run-goes-on (array_of c.loop-far.list) (array_of c.add_number.new.list) c.args.direction c.args.from c.in_ok-number.number c.loop-far.far (c.args.count - c.loop-far.far) (c.args.count - (c.loop-far.far + 1)) (omega (arith, c.loop-far-test.true)) c.in_ok-number.ensures c.in_ok-add_number.ensures ∙ c.loop-far.invariant
+    run-goes-on (array_of c.loop-far.list) (array_of c.add_away.new.list) c.args.direction _ c.loop-far.far (c.args.count - c.loop-far.far) (c.args.count - (c.loop-far.far + 1)) (omega (arith, c.loop-far-test.true)) c.in_ok-add_away.ensures
+    ∙ c.loop-far.invariant
