@@ -51,7 +51,7 @@ fn array(alloc: Global, map: OrderMap<Value>) -> Result<Value, CallFault> {
     Ok(Value::List(ArrayValue::new(alloc, map)?))
 }
 
-fn one(alloc: Global, one: One) -> Result<Value, CallFault> {
+fn single(alloc: Global, one: One) -> Result<Value, CallFault> {
     match one {
         One::Null => Ok(Value::Null),
         One::Truth(b) => Ok(Value::Bool(b)),
@@ -82,14 +82,14 @@ fn texts(alloc: Global, texts: &[&'static [u8]]) -> Result<Value, CallFault> {
 fn pairs(alloc: Global, pairs: &[(At, One)]) -> Result<Value, CallFault> {
     let mut map = OrderMap::new(alloc);
     for (at, item) in pairs {
-        map.set(key(alloc, *at)?, one(alloc, *item)?)?;
+        map.set(key(alloc, *at)?, single(alloc, *item)?)?;
     }
     array(alloc, map)
 }
 
 pub(crate) fn value(alloc: Global, row: Row<'_>) -> Result<Value, CallFault> {
     match row {
-        Row::One(item) => one(alloc, item),
+        Row::One(item) => single(alloc, item),
         Row::Ints(ns) => ints(alloc, ns),
         Row::Texts(ts) => texts(alloc, ts),
         Row::Pairs(ps) => pairs(alloc, ps),

@@ -5,6 +5,9 @@ ghost use Rattle.std.specs.Prelude.{◌≡◌, OnOk, OnErr};
 ghost use Rattle.std.specs.Ordering.{is_lt};
 ghost use Rattle.stable_sort.specs.Sorting.{sort_by};
 
+#[cfg(test)]
+mod tests;
+
 use std::alloc::AllocError;
 
 /// A thing with what it is sorted by.
