@@ -3,6 +3,7 @@ use Rattle.std.proofs.Common.{◌≡◌, ℕ, List, [], ◌∷◌, ◌++◌, Boo
 use Rattle.std.specs.Prelude.{codes, pos, negsuc}
 use Rattle.std.specs.Fmt.{digits}
 use Rattle.php_text_calls.specs.TextCalls.{call_named, text_answer}
+use Rattle.php_list_calls.specs.ListCalls.{list_answer}
 use Rattle.php_values.specs.Convert.{leading_number, is_numeric, normal_number}
 use Rattle.std.specs.declared.option.Option.{Option}
 use Rattle.std.specs.declared.option.Option.TheVariants.{Some, None}
@@ -155,3 +156,18 @@ endless = (refl, refl)
 -- `function f() { echo 'a'; f(); } f();`
 deep : Comes (with_f [] (then (says (text a)) (one (s.evaluate (calls f e.no_more) 2))) (one (s.evaluate (calls f e.no_more) 1))) 12 (codes "aaa") Budget
 deep = (refl, refl)
+
+-- `$a = [1, 2]; foreach ($a as $b) { $a[] = $b; } echo count($a), max($a);`
+counts_what_was_added : Comes (script (then (sets a (e.array (e.item (int 1) (e.item (int 2) e.no_items)) 1))
+    (then (s.foreach (var a) None b (one (s.evaluate (e.assign (e.post (var a) (e.append e.no_accesses) 1) set.Set (var b) 1) 1)) 1)
+    (one (s.echo (e.expression (calls (codes "count") (only (var a))) (only (calls (codes "max") (only (var a))))) 1))))) 50 (codes "42") Done
+unfolding list_answer digits
+counts_what_was_added = (refl, refl)
+
+-- `$a = [3, 1, 2]; sort($a); echo array_push($a, 9), $a[0], $a[3], array_pop($a), count($a); sort('x');`
+changes_a_variable : Comes (script (then (sets a (e.array (e.item (int 3) (e.item (int 1) (e.item (int 2) e.no_items))) 1))
+    (then (s.evaluate (calls (codes "sort") (only (var a))) 1)
+    (then (s.echo (e.expression (calls (codes "array_push") (e.expression (var a) (only (int 9)))) (e.expression (at_key a (int 0)) (e.expression (at_key a (int 3)) (e.expression (calls (codes "array_pop") (only (var a))) (only (calls (codes "count") (only (var a)))))))) 1)
+    (one (s.evaluate (calls (codes "sort") (only (text (codes "x")))) 2)))))) 50 (codes "41993") (Fatal name.Mistyped index 2)
+unfolding list_answer digits leading_number is_numeric normal_number
+changes_a_variable = (refl, refl)

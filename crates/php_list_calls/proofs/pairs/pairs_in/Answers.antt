@@ -1,0 +1,12 @@
+use Rattle.std.proofs.Common.{rules, ◌≡◌, ◌≢◌, ◌∙◌, ◌+◌, ◌-◌, ◌<◌, ◌≤◌, ◌++◌, ◌∷◌, [], List, ℕ, suc, pos, map, take, drop, length, reverse, refl, sym, ap, subst, arith, is_some, if◌then◌else◌, IfOk, OnOk}
+use Rattle.php_values.specs.Data.{data_of, array_of, array, array_pairs, data_pairs}
+use Rattle.php_values.specs.Walks.{rest_of}
+use Rattle.order_map.specs.Arrays.{pairs_of, next_of, keys_of}
+use Rattle.php_list_calls.specs.Items.{items, items_of, values_of, key_value, empty, with_items, with_values, with_all}
+use Rattle.php_list_calls.specs.Pairs.{lent_items}
+use Rattle.php_list_calls.proofs.Items.{walked}
+use Rattle.php_list_calls.proofs.pairs.pairs_in.Goals as goal
+
+pub loop-key-init : goal.loop-key-init
+loop-key-init c =
+    ap (λ ps. lent_items ps ++ items_of (rest_of c.new-walk.result)) c.in_ok-pairs.ensures.items ∙ walked c.args.array.now (rest_of c.new-walk.result) c.new-walk.ensures

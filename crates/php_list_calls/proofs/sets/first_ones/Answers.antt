@@ -1,0 +1,15 @@
+use Rattle.std.proofs.Common.{rules, ◌≡◌, ◌≢◌, ◌∙◌, ◌+◌, ◌-◌, ◌<◌, ◌≤◌, ◌++◌, ◌∷◌, [], List, ℕ, suc, pos, map, take, drop, length, reverse, refl, sym, ap, subst, arith, is_some, if◌then◌else◌, IfOk, OnOk}
+use Rattle.php_values.specs.Data.{data_of, array_of, array, array_pairs, data_pairs}
+use Rattle.php_values.specs.Walks.{rest_of}
+use Rattle.order_map.specs.Arrays.{pairs_of, next_of, keys_of}
+use Rattle.php_list_calls.specs.Items.{items, items_of, values_of, key_value, empty, with_items, with_values, with_all}
+use Rattle.php_list_calls.specs.Sets.{first_ones}
+use Rattle.php_list_calls.proofs.Items.{walked, new-data}
+use Rattle.php_list_calls.proofs.sets.first_ones.Goals as goal
+
+pub loop-key-init : goal.loop-key-init
+loop-key-init c =
+    let t = c.new-texts.ensures.pairs in
+    let m = new-data c.new-map.result c.new-map.ensures.pairs c.new-map.ensures.next in
+    let w = walked c.args.array.now (rest_of c.new-walk.result) c.new-walk.ensures in
+    (λ i. first_ones (keys_of (t i)) (m i) (w i))

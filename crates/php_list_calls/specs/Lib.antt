@@ -1,0 +1,10 @@
+pub mod Items
+pub mod Pairs
+pub mod Firsts
+pub mod Looking
+pub mod Numbers
+pub mod Sets
+pub mod Ends
+pub mod Orders
+pub mod Ranks
+pub mod ListCalls
