@@ -21,38 +21,11 @@ array-is (bytes t) a e = absurd (cc)
 array-is (array b) a e = cc
 array-is (object n) a e = absurd (cc)
 
--- the only argument was an array, and another one is put in its place
-pub one-first : (ds : List Data) (a : ArrayData) (d : Data) → only_array ds ≡ Ok a → (array_in (first_of ds) ≡ a) × (with_first d ds ≡ d ∷ [])
-one-first [] a d e = absurd (cc)
-one-first (x ∷ []) a d e = (array-is x a e, refl)
-one-first (x ∷ y ∷ ds) a d e = absurd (cc)
-
-pub one-changed : (ds new : List Data) (a b : ArrayData) (v : Data) (K : ArrayData → CallAnswer ListAnswer) → only_array ds ≡ Ok a → K a ≡ Ok (gives v b []) → new ≡ with_first (array b) ds
-    → go_on (only_array ds) K ≡ Ok (record { value = v; after = new })
-one-changed ds new a b v K e k n =
-    let w : new ≡ array b ∷ [] = n ∙ (one-first ds a (array b) e).1 in
-    ap (λ x. go_on x K) e ∙ k ∙ ap (λ new. Ok (record { value = v; after = new })) (sym w)
-
-second_or : CallAnswer Two → Data → Data
-second_or (Ok p) d = p.second
-second_or (Err f) d = d
-
-pub two-first : (ds : List Data) (x y : Data) (d : Data) → two ds ≡ Ok (record { first = x; second = y }) → with_first d ds ≡ d ∷ y ∷ []
-unfolding second_or
-two-first [] x y d e = absurd (cc)
-two-first (z ∷ []) x y d e = absurd (cc)
-two-first (z ∷ w ∷ []) x y d e = ap (λ y. d ∷ y ∷ []) (ap (λ r. second_or r y) e)
-two-first (z ∷ w ∷ u ∷ ds) x y d e = absurd (cc)
-
 ok-same : (d e : Data) → (let x : CallAnswer Data = Ok d in x) ≡ Ok e → d ≡ e
 ok-same d e h = cc
 
 ok-err : (d : Data) (f : CallFault) → (let x : CallAnswer Data = Ok d in x) ≡ Err f → ⊥
 ok-err d f h = cc
-
-pub first-twice : (d e : Data) (ds : List Data) → with_first d (with_first e ds) ≡ with_first d ds
-first-twice d e [] = refl
-first-twice d e (x ∷ ds) = refl
 
 -- a value that is given, and the arguments after it
 pub given-after : (d : Data) (expected : CallAnswer ListAnswer) (old new : List Data) (r : Result Value CallFault) → GivesValue (Ok d) r → expected ≡ Ok (record { value = d; after = new }) → GivesAfter expected old new r

@@ -63,10 +63,6 @@ below-last n (k ∷ ks) d b =
     let f = and_both (is_below (n + 1) k) (all_below (n + 1) (ks ++ Int (pos n) ∷ [])) b in
     and_true (is_below n k) (all_below n ks) (below_one n k f.0 (last_apart k (Int (pos n)) ks (not_true (has_key k (ks ++ Int (pos n) ∷ [])) e.0))) (below-last n ks e.1 f.1)
 
-pub keys-push : (ps : List (Key × Value)) (k : Key) (v : Value) → keys_of (ps ++ (k, v) ∷ []) ≡ keys_of ps ++ k ∷ []
-keys-push [] k v = refl
-keys-push (p ∷ ps) k v = ap (λ ks. p.0 ∷ ks) (keys-push ps k v)
-
 -- ---- the last pair
 
 last-push : (o : Option Item) (ps : List (Key × Value)) (k : Key) (v : Value) → last_or o (data_pairs (ps ++ (k, v) ∷ [])) ≡ Some (k, data_of v)
@@ -91,9 +87,6 @@ popped-last m n k v e f =
 
 pub value-last : (m : MapView Value) (ps : List (Key × Value)) (k : Key) (v : Value) → pairs_of m ≡ ps ++ (k, v) ∷ [] → data_of v ≡ last_value (array_pairs (array_of m))
 value-last m ps k v e = sym (ap value_or_null (ap (last_or None) (ap data_pairs e) ∙ last-push None ps k v))
-
-pub popped-none : (m n : MapView Value) → pairs_of m ≡ [] → pairs_of n ≡ [] → next_of n ≡ next_of m → array_of n ≡ popped (array_of m)
-popped-none m n e f g = (λ i. of_pairs (data_pairs (f i)) (g i)) ∙ sym (λ i. popped (of_pairs (data_pairs (e i)) (next_of m)))
 
 pub lowered-below : (n : ℤ) (k : Key) (next : ℕ) (ks : List Key) → k ≡ Int n → n ≡ pos (next - 1) → 0 < next → IsTrue (all_distinct (ks ++ k ∷ [])) → IsTrue (all_below next (ks ++ k ∷ [])) → IsTrue (all_below (next - 1) ks)
 lowered-below n k next ks e f h d b =

@@ -18,69 +18,11 @@ use Rattle.php_list_calls.specs.Ranks.{number_in, word, word_in, lent, with_rank
 
 -- ---- what a value is sorted by
 
-pub number-is : (d : Data) (n : ℤ) → number_in d ≡ Some n → (d ≡ int n) × (is_number d ≡ true)
-number-is null n e = absurd (cc)
-number-is (truth b) n e = absurd (cc)
-number-is (int m) n e = (cc, refl)
-number-is (bytes t) n e = absurd (cc)
-number-is (array a) n e = absurd (cc)
-number-is (object m) n e = absurd (cc)
-
-pub number-not : (d : Data) → number_in d ≡ None → is_number d ≡ false
-number-not null e = refl
-number-not (truth b) e = refl
-number-not (int m) e = absurd (cc)
-number-not (bytes t) e = refl
-number-not (array a) e = refl
-number-not (object m) e = refl
-
-word_by : (b : Bool) (t s : List ℕ) → (if b then None else Some t) ≡ Some s → (bytes t ≡ bytes s) × (not b ≡ true)
-word_by true t s e = absurd (cc)
-word_by false t s e = (cc, refl)
-
-no_word_by : (b : Bool) (t : List ℕ) → (if b then None else Some t) ≡ (let n : Option (List ℕ) = None in n) → not b ≡ false
-no_word_by true t e = refl
-no_word_by false t e = absurd (cc)
-
-pub word-is : (d : Data) (t : List ℕ) → word_in d ≡ Some t → (d ≡ bytes t) × (is_word d ≡ true)
-word-is null t e = absurd (cc)
-word-is (truth b) t e = absurd (cc)
-word-is (int m) t e = absurd (cc)
-word-is (bytes s) t e = word_by (is_numeric s) s t e
-word-is (array a) t e = absurd (cc)
-word-is (object m) t e = absurd (cc)
-
-pub word-not : (d : Data) → word_in d ≡ None → is_word d ≡ false
-word-not null e = refl
-word-not (truth b) e = refl
-word-not (int m) e = refl
-word-not (bytes s) e = no_word_by (is_numeric s) s e
-word-not (array a) e = refl
-word-not (object m) e = refl
-
 -- ---- pairs that get their ranks one by one
 
 -- whether all items of pairs pass a test of what they are sorted by
 abbrev pub all_pass : (Data → Bool) → Part → List Pair → Bool
 all_pass test part ps = list_all (λ e. test (ranked_by part e)) (lent_items ps)
-
-pub pass-step : (test : Data → Bool) (part : Part) (p : Pair) (old new : List Pair) → old ≡ p ∷ new → test (ranked_by part (lent_item p)) ≡ true → all_pass test part old ≡ all_pass test part new
-pass-step test part p old new e t = ap (all_pass test part) e ∙ ap (λ b. b && all_pass test part new) t
-
-pub pass-fails : (test : Data → Bool) (part : Part) (p : Pair) (old new : List Pair) → old ≡ p ∷ new → test (ranked_by part (lent_item p)) ≡ false → all_pass test part old ≡ false
-pass-fails test part p old new e t = ap (all_pass test part) e ∙ ap (λ b. b && all_pass test part new) t
-
-ranks-push : {K : Type 0} (rank : K → Data) (rs : List (Ranked K Pair)) (r : Ranked K Pair) → with_ranks rank (rs ++ r ∷ []) ≡ with_ranks rank rs ++ (rank r.rank, lent_item r.thing) ∷ []
-ranks-push rank [] r = refl
-ranks-push rank (q ∷ rs) r = ap (λ l. (rank q.rank, lent_item q.thing) ∷ l) (ranks-push rank rs r)
-
-pub ranks-step : {K : Type 0} (rank : K → Data) (part : Part) (k : K) (p : Pair) (old new : List Pair) (rs ss : List (Ranked K Pair)) → old ≡ p ∷ new → ranked_by part (lent_item p) ≡ rank k
-    → ss ≡ rs ++ record { rank = k; thing = p } ∷ [] → with_ranks rank ss ++ ranked_items part (lent_items new) ≡ with_ranks rank rs ++ ranked_items part (lent_items old)
-ranks-step rank part k p old new rs ss e d s =
-    let more = ranked_items part (lent_items new) in
-    ap (λ ss. with_ranks rank ss ++ more) s ∙ ap (λ l. l ++ more) (ranks-push rank rs (record { rank = k; thing = p }))
-    ∙ append_assoc (with_ranks rank rs) ((rank k, lent_item p) ∷ []) more
-    ∙ ap (λ d. with_ranks rank rs ++ (d, lent_item p) ∷ more) (sym d) ∙ ap (λ ps. with_ranks rank rs ++ ranked_items part (lent_items ps)) (sym e)
 
 -- ---- what is sorted
 

@@ -22,33 +22,17 @@ use Rattle.php_list_calls.specs.Items.{Item, items, items_of, with_next, with_va
 use Rattle.php_list_calls.specs.Looking.{key_where, slice, counted_slice, slice_start, slice_count}
 use Rattle.php_list_calls.proofs.Items.{walked, new-data, values-list, length-items}
 
-take-nil : {A : Type 0} (n : ℕ) → take n (let e : List A = [] in e) ≡ []
-take-nil zero = refl
-take-nil (suc n) = refl
-
 -- ---- values that are listed
 
 module _ (f : Item → Data) where
   pub list-begins : (m n : MapView Value) (ps : List (Key × Value)) → pairs_of m ≡ [] → next_of m ≡ 0 → ps ≡ pairs_of n → with_values (array_of m) (map f (items_of ps)) ≡ array_list (map f (items (array_of n)))
   list-begins m n ps p q e = (λ i. with_values (new-data m p q i) (map f (walked n ps e i))) ∙ values-list [] (map f (items (array_of n)))
 
-  pub list-goes-on : (a b : ArrayData) (k : Key) (v : Value) (old new : List (Key × Value)) → old ≡ (k, v) ∷ new → b ≡ with_next (f (k, data_of v)) a → with_values b (map f (items_of new)) ≡ with_values a (map f (items_of old))
-  list-goes-on a b k v old new e g = ap (λ b. with_values b (map f (items_of new))) g ∙ ap (λ ps. with_values a (map f (items_of ps))) (sym e)
-
-  pub list-ends : (a : ArrayData) (ps : List (Key × Value)) (ds : List Data) → ps ≡ [] → with_values a (map f (items_of ps)) ≡ array_list ds → a ≡ array_list ds
-  list-ends a ps ds e h = ap (λ ps. with_values a (map f (items_of ps))) (sym e) ∙ h
-
 -- ---- items whose number keys are counted anew
 
 pub items-go-on : (a b : ArrayData) (n m : ℕ) (k : Key) (v : Value) (old new : List (Key × Value)) → old ≡ (k, v) ∷ new → n ≡ suc m → b ≡ with_item k (data_of v) a
     → with_items b (take m (items_of new)) ≡ with_items a (take n (items_of old))
 items-go-on a b n m k v old new e c g = ap (λ b. with_items b (take m (items_of new))) g ∙ (λ i. with_items a (take (sym c i) (items_of (sym e i))))
-
-pub items-end : (a b : ArrayData) (n : ℕ) (ps : List (Key × Value)) → ps ≡ [] → with_items a (take n (items_of ps)) ≡ b → a ≡ b
-items-end a b n ps e h = ap (with_items a) (sym (take-nil n)) ∙ ap (λ ps. with_items a (take n (items_of ps))) (sym e) ∙ h
-
-pub items-done : (a b : ArrayData) (n : ℕ) (es : List Item) → n ≡ 0 → with_items a (take n es) ≡ b → a ≡ b
-items-done a b n es e h = ap (λ n. with_items a (take n es)) (sym e) ∙ h
 
 -- all items of a walk
 pub items-whole : (a : ArrayData) (m : MapView Value) (n : ℕ) (ps : List (Key × Value)) → ps ≡ pairs_of m → n ≡ length (pairs_of m) → with_items a (take n (items_of ps)) ≡ with_items a (items (array_of m))
@@ -60,13 +44,6 @@ items-whole a m n ps e c =
 
 pub passes : {A : Type 0} (n m : ℕ) (x : A) (old new : List A) → old ≡ x ∷ new → n ≡ suc m → drop m new ≡ drop n old
 passes n m x old new e c = λ i. drop (sym c i) (sym e i)
-
-drop-nil : {A : Type 0} (n : ℕ) → drop n (let e : List A = [] in e) ≡ []
-drop-nil zero = refl
-drop-nil (suc n) = refl
-
-pub passes-end : {A : Type 0} (n : ℕ) (xs ys : List A) → xs ≡ [] → drop n xs ≡ ys → xs ≡ ys
-passes-end n xs ys e h = e ∙ sym (drop-nil n) ∙ ap (drop n) (sym e) ∙ h
 
 -- an array without its first item
 pub shifted-all : (b : ArrayData) (m n : MapView Value) (len : ℕ) (w ps : List (Key × Value)) → pairs_of n ≡ [] → next_of n ≡ 0 → ps ≡ pairs_of m → w ≡ drop 1 ps → len ≡ length (pairs_of m)
@@ -111,29 +88,6 @@ sliced a b m start count i c ps e s t w h =
     ∙ ap (λ s. renumbered (counted_slice (drop s es) c)) first
     ∙ ap (λ es. renumbered (slice es i c)) (sym same)
 
--- ---- a value that is sought
-
-module _ (test : Data → CallAnswer Bool) where
-  pub sought-step : (x : CallAnswer Bool) (k : Key) (v : Value) (old new : List (Key × Value)) → old ≡ (k, v) ∷ new → test (data_of v) ≡ x
-      → key_where test (items_of old) ≡ go_on x (λ yes. if yes then Ok (Some k) else key_where test (items_of new))
-  sought-step x k v old new e h = ap (λ ps. key_where test (items_of ps)) e ∙ ap (λ x. go_on x (λ yes. if yes then Ok (Some k) else key_where test (items_of new))) h
-
-  pub sought-ends : (ps : List (Key × Value)) → ps ≡ [] → key_where test (items_of ps) ≡ Ok None
-  sought-ends ps e = ap (λ ps. key_where test (items_of ps)) e
-
--- ---- pairs in reverse
-
-pub lent-push : (ps : List Pair) (p : Pair) → lent_items (ps ++ p ∷ []) ≡ lent_items ps ++ lent_item p ∷ []
-lent-push [] p = refl
-lent-push (q ∷ ps) p = ap (λ es. lent_item q ∷ es) (lent-push ps p)
-
-pub reversed-step : (a b : ArrayData) (old new : List Pair) (p : Pair) → old ≡ new ++ p ∷ [] → b ≡ with_item p.key.now (data_of p.value.now) a
-    → with_items b (reverse (lent_items new)) ≡ with_items a (reverse (lent_items old))
-reversed-step a b old new p e h =
-    let r : reverse (lent_items old) ≡ lent_item p ∷ reverse (lent_items new) =
-    ap (λ ps. reverse (lent_items ps)) e ∙ ap reverse (lent-push new p) ∙ reverse-append (lent_items new) (lent_item p ∷ []) in
-    ap (λ b. with_items b (reverse (lent_items new))) h ∙ sym (ap (with_items a) r)
-
 -- ---- runs of numbers
 
 pub run-begins : (m : MapView Value) (way : Direction) (n : ℤ) (count : ℕ) → pairs_of m ≡ [] → next_of m ≡ 0 → with_values (array_of m) (run way n 0 (count - 0)) ≡ array_list (run way n 0 count)
@@ -145,9 +99,6 @@ pub run-goes-on : (a b : ArrayData) (way : Direction) (m : ℤ) (k n p : ℕ) �
 run-goes-on a b way m k n p c h = ap (λ b. with_values b (run way m (k + 1) p)) h ∙ ap (λ n. with_values a (run way m k n)) (sym c)
 
 -- ---- a next key that is raised
-
-pub raised : (m n : MapView Value) (next : ℕ) → pairs_of n ≡ pairs_of m → next_of n ≡ max (next_of m) next → array_of n ≡ with_next_key next (array_of m)
-raised m n next e f = λ i. of_pairs (data_pairs (e i)) (f i)
 
 -- ---- lists
 

@@ -3,17 +3,10 @@ mod reads;
 mod sums;
 
 use crate::{ListCall, list_call, list_call_named};
-use order_map::{ByteText, Key, OrderMap};
+use order_map::{ByteText, OrderMap};
 use php_arguments::CallFault;
-use php_values::{ArrayValue, Value, Walk};
+use php_values::{ArrayValue, Value, key_of, strict_eq, to_int};
 use std::alloc::Global;
-
-// A key of a row's array.
-#[derive(Clone, Copy)]
-pub(crate) enum At {
-    Int(i64),
-    Text(&'static [u8]),
-}
 
 // A value that is no array, or an empty one.
 #[derive(Clone, Copy)]
@@ -26,29 +19,27 @@ pub(crate) enum One {
     Object,
 }
 
-// An argument of a row, or the value that the row gives; `Same` is the first argument as it was.
+// An argument of a row, or the value that the row gives. The keys and values of `Pairs` are written as texts: a number
+// as its digits, a value that is a text behind `'`. `Same` is the first argument as it was.
 #[derive(Clone, Copy)]
-pub(crate) enum Row<'a> {
+pub(crate) enum Row {
     One(One),
-    Ints(&'a [i64]),
-    Texts(&'a [&'static [u8]]),
-    Pairs(&'a [(At, One)]),
+    Ints(&'static [i64]),
+    Texts(&'static [&'static [u8]]),
+    Pairs(&'static [&'static [u8]], &'static [&'static [u8]]),
     Same,
     Fault(CallFault),
 }
 
 // A call by its name with its arguments, what it gives, and its first argument after it.
-pub(crate) type Case<'a> = (&'static str, &'a [Row<'a>], Row<'a>, Row<'a>);
-
-fn key(alloc: Global, at: At) -> Result<Key, CallFault> {
-    match at {
-        At::Int(n) => Ok(Key::Int(n)),
-        At::Text(t) => Ok(Key::Text(ByteText::from_slice(alloc, t)?)),
-    }
-}
+pub(crate) type Case<'a> = (&'static str, &'a [Row], Row, Row);
 
 fn array(alloc: Global, map: OrderMap<Value>) -> Result<Value, CallFault> {
     Ok(Value::List(ArrayValue::new(alloc, map)?))
+}
+
+fn text(alloc: Global, bytes: &[u8]) -> Result<Value, CallFault> {
+    Ok(Value::Bytes(ByteText::from_slice(alloc, bytes)?))
 }
 
 fn single(alloc: Global, one: One) -> Result<Value, CallFault> {
@@ -56,139 +47,99 @@ fn single(alloc: Global, one: One) -> Result<Value, CallFault> {
         One::Null => Ok(Value::Null),
         One::Truth(b) => Ok(Value::Bool(b)),
         One::Int(n) => Ok(Value::Int(n)),
-        One::Text(t) => Ok(Value::Bytes(ByteText::from_slice(alloc, t)?)),
+        One::Text(t) => text(alloc, t),
         One::Nothing => array(alloc, OrderMap::new(alloc)),
         One::Object => Ok(Value::Object(7)),
     }
 }
 
+// A value that is written as a text.
+fn written(alloc: Global, bytes: &[u8]) -> Result<Value, CallFault> {
+    if bytes == b"null".as_slice() {
+        return Ok(Value::Null);
+    }
+    if bytes == b"true".as_slice() || bytes == b"false".as_slice() {
+        return Ok(Value::Bool(bytes == b"true".as_slice()));
+    }
+    if bytes == b"object".as_slice() {
+        return Ok(Value::Object(7));
+    }
+    if bytes == b"[]".as_slice() {
+        return array(alloc, OrderMap::new(alloc));
+    }
+    match bytes {
+        [b'\'', rest @ ..] => text(alloc, rest),
+        _ => {
+            let digits = text(alloc, bytes)?;
+            let number = to_int(&digits)?;
+            Ok(Value::Int(number))
+        }
+    }
+}
+
 fn ints(alloc: Global, numbers: &[i64]) -> Result<Value, CallFault> {
     let mut map = OrderMap::new(alloc);
-    for (i, n) in numbers.iter().enumerate() {
-        map.set(Key::Int(i as i64), Value::Int(*n))?;
+    for n in numbers {
+        let _key = map.append(Value::Int(*n)).is_ok();
     }
     array(alloc, map)
 }
 
 fn texts(alloc: Global, texts: &[&'static [u8]]) -> Result<Value, CallFault> {
     let mut map = OrderMap::new(alloc);
-    for (i, t) in texts.iter().enumerate() {
-        let text = ByteText::from_slice(alloc, *t)?;
-        map.set(Key::Int(i as i64), Value::Bytes(text))?;
+    for t in texts {
+        let _key = map.append(text(alloc, *t)?).is_ok();
     }
     array(alloc, map)
 }
 
-fn pairs(alloc: Global, pairs: &[(At, One)]) -> Result<Value, CallFault> {
+fn pairs(
+    alloc: Global,
+    keys: &[&'static [u8]],
+    values: &[&'static [u8]],
+) -> Result<Value, CallFault> {
     let mut map = OrderMap::new(alloc);
-    for (at, item) in pairs {
-        map.set(key(alloc, *at)?, single(alloc, *item)?)?;
+    for (key, value) in keys.iter().zip(values) {
+        let key = key_of(alloc, &text(alloc, *key)?)?;
+        let _old = map.set(key, written(alloc, *value)?)?;
     }
     array(alloc, map)
 }
 
-pub(crate) fn value(alloc: Global, row: Row<'_>) -> Result<Value, CallFault> {
+pub(crate) fn value(alloc: Global, row: Row) -> Result<Value, CallFault> {
     match row {
         Row::One(item) => single(alloc, item),
         Row::Ints(ns) => ints(alloc, ns),
         Row::Texts(ts) => texts(alloc, ts),
-        Row::Pairs(ps) => pairs(alloc, ps),
+        Row::Pairs(ks, vs) => pairs(alloc, ks, vs),
         Row::Same => Ok(Value::Null),
         Row::Fault(fault) => Err(fault),
     }
 }
 
-fn is_key(key: &Key, at: At) -> bool {
-    match (key, at) {
-        (Key::Int(a), At::Int(b)) => *a == b,
-        (Key::Text(a), At::Text(b)) => a.as_slice() == b,
-        _ => false,
-    }
+pub(crate) fn is_row(alloc: Global, given: &Value, row: Row) -> Result<bool, CallFault> {
+    let expected = value(alloc, row)?;
+    let same = strict_eq(alloc, given, &expected)?;
+    Ok(same)
 }
 
-fn is_one(value: &Value, one: One) -> bool {
-    match (value, one) {
-        (Value::Null, One::Null) => true,
-        (Value::Bool(a), One::Truth(b)) => *a == b,
-        (Value::Int(a), One::Int(b)) => *a == b,
-        (Value::Bytes(a), One::Text(b)) => a.as_slice() == b,
-        (Value::List(a), One::Nothing) => a.map.len() == 0,
-        (Value::Object(a), One::Object) => *a == 7,
-        _ => false,
-    }
-}
-
-fn has_pairs(map: &OrderMap<Value>, pairs: &[(At, One)]) -> bool {
-    let mut walk = Walk::new(map);
-    for (at, one) in pairs {
-        match walk.next() {
-            None => return false,
-            Some((key, value)) => {
-                if !is_key(key, *at) || !is_one(value, *one) {
-                    return false;
-                }
-            }
-        }
-    }
-    walk.next().is_none()
-}
-
-fn has_ints(map: &OrderMap<Value>, numbers: &[i64]) -> bool {
-    let mut walk = Walk::new(map);
-    for (i, n) in numbers.iter().enumerate() {
-        match walk.next() {
-            None => return false,
-            Some((key, value)) => {
-                if !is_key(key, At::Int(i as i64)) || !is_one(value, One::Int(*n)) {
-                    return false;
-                }
-            }
-        }
-    }
-    walk.next().is_none()
-}
-
-fn has_texts(map: &OrderMap<Value>, texts: &[&'static [u8]]) -> bool {
-    let mut walk = Walk::new(map);
-    for (i, t) in texts.iter().enumerate() {
-        match walk.next() {
-            None => return false,
-            Some((key, value)) => {
-                if !is_key(key, At::Int(i as i64)) || !is_one(value, One::Text(*t)) {
-                    return false;
-                }
-            }
-        }
-    }
-    walk.next().is_none()
-}
-
-pub(crate) fn is_row(value: &Value, row: Row<'_>) -> bool {
-    match (value, row) {
-        (_, Row::One(one)) => is_one(value, one),
-        (Value::List(a), Row::Ints(ns)) => has_ints(a.map.as_ref(), ns),
-        (Value::List(a), Row::Texts(ts)) => has_texts(a.map.as_ref(), ts),
-        (Value::List(a), Row::Pairs(ps)) => has_pairs(a.map.as_ref(), ps),
-        _ => false,
-    }
-}
-
-fn gives(answer: &Result<Value, CallFault>, row: Row<'_>) -> bool {
+fn gives(alloc: Global, answer: &Result<Value, CallFault>, row: Row) -> Result<bool, CallFault> {
     match (answer, row) {
-        (Err(a), Row::Fault(b)) => *a == b,
-        (Ok(value), _) => is_row(value, row),
-        _ => false,
+        (Err(a), Row::Fault(b)) => Ok(*a == b),
+        (Ok(value), Row::Fault(_)) => Ok(false),
+        (Ok(value), _) => is_row(alloc, value, row),
+        _ => Ok(false),
     }
 }
 
 // Whether the first argument is as a row says, or as it was.
-fn leaves(values: &[Value], args: &[Row<'_>], after: Row<'_>) -> bool {
+fn leaves(alloc: Global, values: &[Value], args: &[Row], after: Row) -> Result<bool, CallFault> {
     let (Some(value), Some(before)) = (values.first(), args.first()) else {
-        return true;
+        return Ok(true);
     };
     match after {
-        Row::Same => is_row(value, *before),
-        _ => is_row(value, after),
+        Row::Same => is_row(alloc, value, *before),
+        _ => is_row(alloc, value, after),
     }
 }
 
@@ -203,7 +154,9 @@ fn holds(alloc: Global, case: Case<'_>) -> Result<bool, CallFault> {
         values.push(value(alloc, *row)?)?;
     }
     let answer = list_call(alloc, call, values.as_mut_slice());
-    Ok(gives(&answer, expected) && leaves(values.as_slice(), args, after))
+    let given = gives(alloc, &answer, expected)?;
+    let left = leaves(alloc, values.as_slice(), args, after)?;
+    Ok(given && left)
 }
 
 pub(crate) fn all_hold(alloc: Global, cases: &[Case<'_>]) -> bool {
@@ -216,7 +169,7 @@ pub(crate) fn all_hold(alloc: Global, cases: &[Case<'_>]) -> bool {
     true
 }
 
-// A call of one array, and what it gives.
+// A call of one array: what it gives, and the array after it.
 pub(crate) fn changed(
     alloc: Global,
     call: ListCall,

@@ -1,5 +1,5 @@
 use crate::ListCall;
-use crate::tests::{At, Case, One, Row, all_hold, changed, is_row, pushed, value};
+use crate::tests::{Case, One, Row, all_hold, changed, is_row, pushed, value};
 use php_arguments::CallFault;
 use php_values::copy_value;
 use std::alloc::Global;
@@ -26,20 +26,16 @@ fn rows_of_ends(rt: HostRuntime) {
         (
             "array_push",
             &[
-                Row::Pairs(&[(At::Text(b"k"), One::Int(1)), (At::Int(-5), One::Int(2))]),
+                Row::Pairs(&[b"k", b"-5"], &[b"1", b"2"]),
                 Row::One(One::Int(3)),
             ],
             Row::One(One::Int(3)),
-            Row::Pairs(&[
-                (At::Text(b"k"), One::Int(1)),
-                (At::Int(-5), One::Int(2)),
-                (At::Int(0), One::Int(3)),
-            ]),
+            Row::Pairs(&[b"k", b"-5", b"0"], &[b"1", b"2", b"3"]),
         ),
         (
             "array_push",
             &[
-                Row::Pairs(&[(At::Int(9223372036854775807), One::Int(1))]),
+                Row::Pairs(&[b"9223372036854775807"], &[b"1"]),
                 Row::One(One::Int(2)),
             ],
             Row::Fault(CallFault::Keys),
@@ -47,9 +43,9 @@ fn rows_of_ends(rt: HostRuntime) {
         ),
         (
             "array_push",
-            &[Row::Pairs(&[(At::Int(9223372036854775807), One::Int(1))])],
+            &[Row::Pairs(&[b"9223372036854775807"], &[b"1"])],
             Row::One(One::Int(1)),
-            Row::Pairs(&[(At::Int(9223372036854775807), One::Int(1))]),
+            Row::Pairs(&[b"9223372036854775807"], &[b"1"]),
         ),
         (
             "array_push",
@@ -62,7 +58,7 @@ fn rows_of_ends(rt: HostRuntime) {
             "array_push",
             &[Row::Ints(&[]), Row::One(One::Object)],
             Row::One(One::Int(1)),
-            Row::Pairs(&[(At::Int(0), One::Object)]),
+            Row::Pairs(&[b"0"], &[b"object"]),
         ),
         (
             "array_pop",
@@ -78,9 +74,9 @@ fn rows_of_ends(rt: HostRuntime) {
         ),
         (
             "array_pop",
-            &[Row::Pairs(&[(At::Text(b"k"), One::Int(1)), (At::Text(b"l"), One::Int(2))])],
+            &[Row::Pairs(&[b"k", b"l"], &[b"1", b"2"])],
             Row::One(One::Int(2)),
-            Row::Pairs(&[(At::Text(b"k"), One::Int(1))]),
+            Row::Pairs(&[b"k"], &[b"1"]),
         ),
         (
             "array_pop",
@@ -97,13 +93,9 @@ fn rows_of_ends(rt: HostRuntime) {
         ("array_pop", &[], Row::Fault(CallFault::Arity), Row::Same),
         (
             "array_shift",
-            &[Row::Pairs(&[
-                (At::Int(4), One::Int(1)),
-                (At::Text(b"k"), One::Int(2)),
-                (At::Int(7), One::Int(3)),
-            ])],
+            &[Row::Pairs(&[b"4", b"k", b"7"], &[b"1", b"2", b"3"])],
             Row::One(One::Int(1)),
-            Row::Pairs(&[(At::Text(b"k"), One::Int(2)), (At::Int(0), One::Int(3))]),
+            Row::Pairs(&[b"k", b"0"], &[b"2", b"3"]),
         ),
         (
             "array_shift",
@@ -127,15 +119,11 @@ fn rows_of_ends(rt: HostRuntime) {
         (
             "array_unshift",
             &[
-                Row::Pairs(&[(At::Int(4), One::Int(1)), (At::Text(b"k"), One::Int(2))]),
+                Row::Pairs(&[b"4", b"k"], &[b"1", b"2"]),
                 Row::One(One::Int(9)),
             ],
             Row::One(One::Int(3)),
-            Row::Pairs(&[
-                (At::Int(0), One::Int(9)),
-                (At::Int(1), One::Int(1)),
-                (At::Text(b"k"), One::Int(2)),
-            ]),
+            Row::Pairs(&[b"0", b"1", b"k"], &[b"9", b"1", b"2"]),
         ),
         (
             "array_unshift",
@@ -186,7 +174,7 @@ fn rows_of_orders(rt: HostRuntime) {
         ),
         (
             "sort",
-            &[Row::Pairs(&[(At::Text(b"k"), One::Int(2)), (At::Text(b"l"), One::Int(1))])],
+            &[Row::Pairs(&[b"k", b"l"], &[b"2", b"1"])],
             Row::One(One::Truth(true)),
             Row::Ints(&[1, 2]),
         ),
@@ -198,7 +186,7 @@ fn rows_of_orders(rt: HostRuntime) {
         ),
         (
             "sort",
-            &[Row::Pairs(&[(At::Int(0), One::Int(1)), (At::Int(1), One::Text(b"a"))])],
+            &[Row::Pairs(&[b"0", b"1"], &[b"1", b"'a"])],
             Row::Fault(CallFault::Sort),
             Row::Same,
         ),
@@ -216,7 +204,7 @@ fn rows_of_orders(rt: HostRuntime) {
         ),
         (
             "sort",
-            &[Row::Pairs(&[(At::Int(0), One::Null)])],
+            &[Row::Pairs(&[b"0"], &[b"null"])],
             Row::Fault(CallFault::Sort),
             Row::Same,
         ),
@@ -247,7 +235,7 @@ fn rows_of_orders(rt: HostRuntime) {
         ),
         (
             "rsort",
-            &[Row::Pairs(&[(At::Int(0), One::Truth(true))])],
+            &[Row::Pairs(&[b"0"], &[b"true"])],
             Row::Fault(CallFault::Sort),
             Row::Same,
         ),
@@ -259,33 +247,15 @@ fn rows_of_orders(rt: HostRuntime) {
         ),
         (
             "asort",
-            &[Row::Pairs(&[
-                (At::Text(b"a"), One::Int(2)),
-                (At::Text(b"b"), One::Int(1)),
-                (At::Text(b"c"), One::Int(2)),
-                (At::Text(b"d"), One::Int(1)),
-            ])],
+            &[Row::Pairs(&[b"a", b"b", b"c", b"d"], &[b"2", b"1", b"2", b"1"])],
             Row::One(One::Truth(true)),
-            Row::Pairs(&[
-                (At::Text(b"b"), One::Int(1)),
-                (At::Text(b"d"), One::Int(1)),
-                (At::Text(b"a"), One::Int(2)),
-                (At::Text(b"c"), One::Int(2)),
-            ]),
+            Row::Pairs(&[b"b", b"d", b"a", b"c"], &[b"1", b"1", b"2", b"2"]),
         ),
         (
             "asort",
-            &[Row::Pairs(&[
-                (At::Int(9), One::Text(b"x")),
-                (At::Int(3), One::Text(b"x")),
-                (At::Int(5), One::Text(b"a")),
-            ])],
+            &[Row::Pairs(&[b"9", b"3", b"5"], &[b"'x", b"'x", b"'a"])],
             Row::One(One::Truth(true)),
-            Row::Pairs(&[
-                (At::Int(5), One::Text(b"a")),
-                (At::Int(9), One::Text(b"x")),
-                (At::Int(3), One::Text(b"x")),
-            ]),
+            Row::Pairs(&[b"5", b"9", b"3"], &[b"'a", b"'x", b"'x"]),
         ),
         (
             "asort",
@@ -301,29 +271,19 @@ fn rows_of_orders(rt: HostRuntime) {
         ),
         (
             "arsort",
-            &[Row::Pairs(&[
-                (At::Text(b"a"), One::Int(2)),
-                (At::Text(b"b"), One::Int(1)),
-                (At::Text(b"c"), One::Int(2)),
-                (At::Text(b"d"), One::Int(1)),
-            ])],
+            &[Row::Pairs(&[b"a", b"b", b"c", b"d"], &[b"2", b"1", b"2", b"1"])],
             Row::One(One::Truth(true)),
-            Row::Pairs(&[
-                (At::Text(b"a"), One::Int(2)),
-                (At::Text(b"c"), One::Int(2)),
-                (At::Text(b"b"), One::Int(1)),
-                (At::Text(b"d"), One::Int(1)),
-            ]),
+            Row::Pairs(&[b"a", b"c", b"b", b"d"], &[b"2", b"2", b"1", b"1"]),
         ),
         (
             "arsort",
-            &[Row::Pairs(&[(At::Int(3), One::Text(b"x")), (At::Int(9), One::Text(b"x"))])],
+            &[Row::Pairs(&[b"3", b"9"], &[b"'x", b"'x"])],
             Row::One(One::Truth(true)),
-            Row::Pairs(&[(At::Int(3), One::Text(b"x")), (At::Int(9), One::Text(b"x"))]),
+            Row::Pairs(&[b"3", b"9"], &[b"'x", b"'x"]),
         ),
         (
             "arsort",
-            &[Row::Pairs(&[(At::Int(0), One::Int(1)), (At::Int(1), One::Text(b"x"))])],
+            &[Row::Pairs(&[b"0", b"1"], &[b"1", b"'x"])],
             Row::Fault(CallFault::Sort),
             Row::Same,
         ),
@@ -335,65 +295,46 @@ fn rows_of_orders(rt: HostRuntime) {
         ),
         (
             "ksort",
-            &[Row::Pairs(&[
-                (At::Int(9), One::Int(1)),
-                (At::Int(-2), One::Int(2)),
-                (At::Int(4), One::Int(3)),
-            ])],
+            &[Row::Pairs(&[b"9", b"-2", b"4"], &[b"1", b"2", b"3"])],
             Row::One(One::Truth(true)),
-            Row::Pairs(&[
-                (At::Int(-2), One::Int(2)),
-                (At::Int(4), One::Int(3)),
-                (At::Int(9), One::Int(1)),
-            ]),
+            Row::Pairs(&[b"-2", b"4", b"9"], &[b"2", b"3", b"1"]),
         ),
         (
             "ksort",
-            &[Row::Pairs(&[(At::Text(b"b"), One::Int(1)), (At::Text(b"a"), One::Object)])],
+            &[Row::Pairs(&[b"b", b"a"], &[b"1", b"object"])],
             Row::One(One::Truth(true)),
-            Row::Pairs(&[(At::Text(b"a"), One::Object), (At::Text(b"b"), One::Int(1))]),
+            Row::Pairs(&[b"a", b"b"], &[b"object", b"1"]),
         ),
         (
             "ksort",
-            &[Row::Pairs(&[(At::Text(b"b"), One::Int(1)), (At::Int(0), One::Int(2))])],
+            &[Row::Pairs(&[b"b", b"0"], &[b"1", b"2"])],
             Row::Fault(CallFault::Sort),
             Row::Same,
         ),
         (
             "ksort",
-            &[Row::Pairs(&[
-                (At::Text(b"08"), One::Int(1)),
-                (At::Text(b"a"), One::Int(2)),
-            ])],
+            &[Row::Pairs(&[b"08", b"a"], &[b"1", b"2"])],
             Row::Fault(CallFault::Sort),
             Row::Same,
         ),
         ("ksort", &[], Row::Fault(CallFault::Arity), Row::Same),
         (
             "krsort",
-            &[Row::Pairs(&[
-                (At::Int(9), One::Int(1)),
-                (At::Int(-2), One::Int(2)),
-                (At::Int(4), One::Int(3)),
-            ])],
+            &[Row::Pairs(&[b"9", b"-2", b"4"], &[b"1", b"2", b"3"])],
             Row::One(One::Truth(true)),
-            Row::Pairs(&[
-                (At::Int(9), One::Int(1)),
-                (At::Int(4), One::Int(3)),
-                (At::Int(-2), One::Int(2)),
-            ]),
+            Row::Pairs(&[b"9", b"4", b"-2"], &[b"1", b"3", b"2"]),
         ),
         (
             "krsort",
-            &[Row::Pairs(&[(At::Text(b"a"), One::Int(1)), (At::Text(b"b"), One::Int(2))])],
+            &[Row::Pairs(&[b"a", b"b"], &[b"1", b"2"])],
             Row::One(One::Truth(true)),
-            Row::Pairs(&[(At::Text(b"b"), One::Int(2)), (At::Text(b"a"), One::Int(1))]),
+            Row::Pairs(&[b"b", b"a"], &[b"2", b"1"]),
         ),
         (
             "krsort",
-            &[Row::Pairs(&[(At::Text(b""), One::Int(1)), (At::Text(b"x"), One::Int(2))])],
+            &[Row::Pairs(&[b"", b"x"], &[b"1", b"2"])],
             Row::One(One::Truth(true)),
-            Row::Pairs(&[(At::Text(b"x"), One::Int(2)), (At::Text(b""), One::Int(1))]),
+            Row::Pairs(&[b"x", b""], &[b"2", b"1"]),
         ),
         (
             "krsort",
@@ -408,15 +349,16 @@ fn rows_of_orders(rt: HostRuntime) {
 // Whether an array is as a row says after a call, and after one more value.
 fn goes_on(
     alloc: Global,
-    array: Row<'_>,
+    array: Row,
     call: ListCall,
-    after: Row<'_>,
-    more: Row<'_>,
+    after: Row,
+    more: Row,
 ) -> Result<bool, CallFault> {
     let (_given, left) = changed(alloc, call, value(alloc, array)?)?;
-    let was = is_row(&left, after);
+    let was = is_row(alloc, &left, after)?;
     let grown = pushed(alloc, left, 9)?;
-    Ok(was && is_row(&grown, more))
+    let is = is_row(alloc, &grown, more)?;
+    Ok(was && is)
 }
 
 fn is_true(answer: Result<bool, CallFault>) -> bool {
@@ -439,12 +381,12 @@ fn next_keys(rt: HostRuntime) {
             Row::Ints(&[1, 9])
         ))
     );
-    let gap = Row::Pairs(&[(At::Int(5), One::Int(1)), (At::Text(b"k"), One::Int(2))]);
-    let left = Row::Pairs(&[(At::Int(5), One::Int(1))]);
-    let grown = Row::Pairs(&[(At::Int(5), One::Int(1)), (At::Int(6), One::Int(9))]);
+    let gap = Row::Pairs(&[b"5", b"k"], &[b"1", b"2"]);
+    let left = Row::Pairs(&[b"5"], &[b"1"]);
+    let grown = Row::Pairs(&[b"5", b"6"], &[b"1", b"9"]);
     assert!(rt; is_true(goes_on(alloc, gap, ListCall::ArrayPop, left, grown)));
     // a negative key leaves the next key
-    let negative = Row::Pairs(&[(At::Int(-1), One::Int(1))]);
+    let negative = Row::Pairs(&[b"-1"], &[b"1"]);
     assert!(rt;
         is_true(goes_on(
             alloc,
@@ -455,7 +397,7 @@ fn next_keys(rt: HostRuntime) {
         ))
     );
     // no key is left after the greatest one, also where it is taken off
-    let last = Row::Pairs(&[(At::Int(i64::MAX), One::Int(1))]);
+    let last = Row::Pairs(&[b"9223372036854775807"], &[b"1"]);
     assert!(rt;
         goes_on(
             alloc,
@@ -476,22 +418,18 @@ fn next_keys(rt: HostRuntime) {
         ))
     );
     // an array that is sorted with its keys keeps its next key
-    let mixed = Row::Pairs(&[(At::Int(3), One::Int(2)), (At::Int(7), One::Int(1))]);
-    let sorted = Row::Pairs(&[(At::Int(7), One::Int(1)), (At::Int(3), One::Int(2))]);
-    let more = Row::Pairs(&[
-        (At::Int(7), One::Int(1)),
-        (At::Int(3), One::Int(2)),
-        (At::Int(8), One::Int(9)),
-    ]);
+    let mixed = Row::Pairs(&[b"3", b"7"], &[b"2", b"1"]);
+    let sorted = Row::Pairs(&[b"7", b"3"], &[b"1", b"2"]);
+    let more = Row::Pairs(&[b"7", b"3", b"8"], &[b"1", b"2", b"9"]);
     assert!(rt; is_true(goes_on(alloc, mixed, ListCall::Asort, sorted, more)));
 }
 
 // Whether a copy of an array stays as it was when the array is changed.
-fn copy_stays(alloc: Global, row: Row<'_>) -> Result<bool, CallFault> {
+fn copy_stays(alloc: Global, row: Row) -> Result<bool, CallFault> {
     let array = value(alloc, row)?;
     let copy = copy_value(&array)?;
     let (_given, _left) = changed(alloc, ListCall::ArrayPop, array)?;
-    Ok(is_row(&copy, row))
+    is_row(alloc, &copy, row)
 }
 
 #[test]

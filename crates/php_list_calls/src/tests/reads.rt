@@ -1,4 +1,4 @@
-use crate::tests::{At, Case, One, Row, all_hold};
+use crate::tests::{Case, One, Row, all_hold};
 use php_arguments::CallFault;
 
 #[test]
@@ -112,7 +112,7 @@ fn rows_of_looks(rt: HostRuntime) {
             "in_array",
             &[
                 Row::One(One::Null),
-                Row::Pairs(&[(At::Int(0), One::Nothing), (At::Int(1), One::Int(0))]),
+                Row::Pairs(&[b"0", b"1"], &[b"[]", b"0"]),
             ],
             Row::One(One::Truth(true)),
             Row::Same,
@@ -127,10 +127,7 @@ fn rows_of_looks(rt: HostRuntime) {
             "array_search",
             &[
                 Row::One(One::Text(b"b")),
-                Row::Pairs(&[
-                    (At::Text(b"k"), One::Text(b"a")),
-                    (At::Text(b"l"), One::Text(b"b")),
-                ]),
+                Row::Pairs(&[b"k", b"l"], &[b"'a", b"'b"]),
             ],
             Row::One(One::Text(b"l")),
             Row::Same,
@@ -171,46 +168,31 @@ fn rows_of_looks(rt: HostRuntime) {
         ),
         (
             "array_key_exists",
-            &[
-                Row::One(One::Text(b"k")),
-                Row::Pairs(&[(At::Text(b"k"), One::Null)]),
-            ],
+            &[Row::One(One::Text(b"k")), Row::Pairs(&[b"k"], &[b"null"])],
             Row::One(One::Truth(true)),
             Row::Same,
         ),
         (
             "array_key_exists",
-            &[
-                Row::One(One::Text(b"08")),
-                Row::Pairs(&[(At::Int(8), One::Int(1))]),
-            ],
+            &[Row::One(One::Text(b"08")), Row::Pairs(&[b"8"], &[b"1"])],
             Row::One(One::Truth(false)),
             Row::Same,
         ),
         (
             "array_key_exists",
-            &[
-                Row::One(One::Text(b"8")),
-                Row::Pairs(&[(At::Int(8), One::Int(1))]),
-            ],
+            &[Row::One(One::Text(b"8")), Row::Pairs(&[b"8"], &[b"1"])],
             Row::One(One::Truth(true)),
             Row::Same,
         ),
         (
             "array_key_exists",
-            &[
-                Row::One(One::Truth(true)),
-                Row::Pairs(&[(At::Int(1), One::Int(1))]),
-            ],
+            &[Row::One(One::Truth(true)), Row::Pairs(&[b"1"], &[b"1"])],
             Row::One(One::Truth(true)),
             Row::Same,
         ),
         (
             "array_key_exists",
-            &[
-                Row::One(One::Null),
-                Row::Pairs(&[(At::Text(b""), One::Int(1))]),
-            ],
+            &[Row::One(One::Null), Row::Pairs(&[b""], &[b"1"])],
             Row::One(One::Truth(true)),
             Row::Same,
         ),
@@ -253,8 +235,8 @@ fn rows_of_parts(rt: HostRuntime) {
     let rows: [Case<'_>; 36] = [
         (
             "array_keys",
-            &[Row::Pairs(&[(At::Text(b"k"), One::Int(1)), (At::Int(5), One::Int(2))])],
-            Row::Pairs(&[(At::Int(0), One::Text(b"k")), (At::Int(1), One::Int(5))]),
+            &[Row::Pairs(&[b"k", b"5"], &[b"1", b"2"])],
+            Row::Pairs(&[b"0", b"1"], &[b"'k", b"5"]),
             Row::Same,
         ),
         ("array_keys", &[Row::Ints(&[])], Row::Ints(&[]), Row::Same),
@@ -272,22 +254,19 @@ fn rows_of_parts(rt: HostRuntime) {
         ),
         (
             "array_values",
-            &[Row::Pairs(&[(At::Text(b"k"), One::Int(1)), (At::Int(5), One::Int(2))])],
+            &[Row::Pairs(&[b"k", b"5"], &[b"1", b"2"])],
             Row::Ints(&[1, 2]),
             Row::Same,
         ),
         (
             "array_values",
-            &[Row::Pairs(&[])],
+            &[Row::Pairs(&[], &[])],
             Row::Ints(&[]),
             Row::Same,
         ),
         (
             "array_values",
-            &[Row::Pairs(&[
-                (At::Int(9), One::Text(b"a")),
-                (At::Int(-3), One::Text(b"b")),
-            ])],
+            &[Row::Pairs(&[b"9", b"-3"], &[b"'a", b"'b"])],
             Row::Texts(&[b"a", b"b"]),
             Row::Same,
         ),
@@ -301,14 +280,10 @@ fn rows_of_parts(rt: HostRuntime) {
         (
             "array_merge",
             &[
-                Row::Pairs(&[(At::Int(5), One::Int(1)), (At::Text(b"k"), One::Int(2))]),
-                Row::Pairs(&[(At::Int(5), One::Int(3)), (At::Text(b"k"), One::Int(4))]),
+                Row::Pairs(&[b"5", b"k"], &[b"1", b"2"]),
+                Row::Pairs(&[b"5", b"k"], &[b"3", b"4"]),
             ],
-            Row::Pairs(&[
-                (At::Int(0), One::Int(1)),
-                (At::Text(b"k"), One::Int(4)),
-                (At::Int(1), One::Int(3)),
-            ]),
+            Row::Pairs(&[b"0", b"k", b"1"], &[b"1", b"4", b"3"]),
             Row::Same,
         ),
         (
@@ -319,21 +294,17 @@ fn rows_of_parts(rt: HostRuntime) {
         ),
         (
             "array_merge",
-            &[Row::Pairs(&[(At::Int(9), One::Int(1))])],
+            &[Row::Pairs(&[b"9"], &[b"1"])],
             Row::Ints(&[1]),
             Row::Same,
         ),
         (
             "array_merge",
             &[
-                Row::Pairs(&[(At::Text(b"b"), One::Int(1)), (At::Text(b"a"), One::Int(2))]),
-                Row::Pairs(&[(At::Text(b"a"), One::Int(3)), (At::Text(b"c"), One::Int(4))]),
+                Row::Pairs(&[b"b", b"a"], &[b"1", b"2"]),
+                Row::Pairs(&[b"a", b"c"], &[b"3", b"4"]),
             ],
-            Row::Pairs(&[
-                (At::Text(b"b"), One::Int(1)),
-                (At::Text(b"a"), One::Int(3)),
-                (At::Text(b"c"), One::Int(4)),
-            ]),
+            Row::Pairs(&[b"b", b"a", b"c"], &[b"1", b"3", b"4"]),
             Row::Same,
         ),
         ("array_merge", &[], Row::Fault(CallFault::Arity), Row::Same),
@@ -420,14 +391,10 @@ fn rows_of_parts(rt: HostRuntime) {
         (
             "array_slice",
             &[
-                Row::Pairs(&[
-                    (At::Text(b"k"), One::Int(1)),
-                    (At::Int(7), One::Int(2)),
-                    (At::Text(b"l"), One::Int(3)),
-                ]),
+                Row::Pairs(&[b"k", b"7", b"l"], &[b"1", b"2", b"3"]),
                 Row::One(One::Int(1)),
             ],
-            Row::Pairs(&[(At::Int(0), One::Int(2)), (At::Text(b"l"), One::Int(3))]),
+            Row::Pairs(&[b"0", b"l"], &[b"2", b"3"]),
             Row::Same,
         ),
         (
@@ -476,16 +443,8 @@ fn rows_of_parts(rt: HostRuntime) {
         ),
         (
             "array_reverse",
-            &[Row::Pairs(&[
-                (At::Text(b"k"), One::Int(1)),
-                (At::Int(7), One::Int(2)),
-                (At::Int(8), One::Int(3)),
-            ])],
-            Row::Pairs(&[
-                (At::Int(0), One::Int(3)),
-                (At::Int(1), One::Int(2)),
-                (At::Text(b"k"), One::Int(1)),
-            ]),
+            &[Row::Pairs(&[b"k", b"7", b"8"], &[b"1", b"2", b"3"])],
+            Row::Pairs(&[b"0", b"1", b"k"], &[b"3", b"2", b"1"]),
             Row::Same,
         ),
         (

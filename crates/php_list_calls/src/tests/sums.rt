@@ -1,4 +1,4 @@
-use crate::tests::{At, Case, One, Row, all_hold};
+use crate::tests::{Case, One, Row, all_hold};
 use php_arguments::CallFault;
 
 #[test]
@@ -18,11 +18,7 @@ fn rows_of_numbers(rt: HostRuntime) {
         ),
         (
             "array_sum",
-            &[Row::Pairs(&[
-                (At::Int(0), One::Truth(true)),
-                (At::Int(1), One::Null),
-                (At::Int(2), One::Text(b"3x")),
-            ])],
+            &[Row::Pairs(&[b"0", b"1", b"2"], &[b"true", b"null", b"'3x"])],
             Row::One(One::Int(4)),
             Row::Same,
         ),
@@ -34,13 +30,13 @@ fn rows_of_numbers(rt: HostRuntime) {
         ),
         (
             "array_sum",
-            &[Row::Pairs(&[(At::Int(0), One::Nothing), (At::Int(1), One::Int(1))])],
+            &[Row::Pairs(&[b"0", b"1"], &[b"[]", b"1"])],
             Row::Fault(CallFault::Mistyped),
             Row::Same,
         ),
         (
             "array_sum",
-            &[Row::Pairs(&[(At::Int(0), One::Object)])],
+            &[Row::Pairs(&[b"0"], &[b"object"])],
             Row::Fault(CallFault::Mistyped),
             Row::Same,
         ),
@@ -52,13 +48,13 @@ fn rows_of_numbers(rt: HostRuntime) {
         ),
         (
             "array_sum",
-            &[Row::Ints(&[9223372036854775807, 1, -1])],
+            &[Row::Pairs(&[b"0", b"1", b"2"], &[b"9223372036854775807", b"1", b"-1"])],
             Row::Fault(CallFault::Float),
             Row::Same,
         ),
         (
             "array_sum",
-            &[Row::Ints(&[9223372036854775807, -1, 1])],
+            &[Row::Pairs(&[b"0", b"1", b"2"], &[b"9223372036854775807", b"-1", b"1"])],
             Row::One(One::Int(9223372036854775807)),
             Row::Same,
         ),
@@ -82,13 +78,13 @@ fn rows_of_numbers(rt: HostRuntime) {
         ),
         (
             "max",
-            &[Row::Ints(&[-5])],
+            &[Row::Pairs(&[b"0"], &[b"-5"])],
             Row::One(One::Int(-5)),
             Row::Same,
         ),
         (
             "max",
-            &[Row::Pairs(&[(At::Int(0), One::Int(1)), (At::Int(1), One::Text(b"2"))])],
+            &[Row::Pairs(&[b"0", b"1"], &[b"1", b"'2"])],
             Row::Fault(CallFault::Sort),
             Row::Same,
         ),
@@ -124,13 +120,13 @@ fn rows_of_numbers(rt: HostRuntime) {
         ),
         (
             "min",
-            &[Row::Ints(&[-5, 5])],
+            &[Row::Pairs(&[b"0", b"1"], &[b"-5", b"5"])],
             Row::One(One::Int(-5)),
             Row::Same,
         ),
         (
             "min",
-            &[Row::Pairs(&[(At::Int(0), One::Int(1)), (At::Int(1), One::Null)])],
+            &[Row::Pairs(&[b"0", b"1"], &[b"1", b"null"])],
             Row::Fault(CallFault::Sort),
             Row::Same,
         ),
@@ -144,7 +140,10 @@ fn rows_of_numbers(rt: HostRuntime) {
         (
             "range",
             &[Row::One(One::Int(2)), Row::One(One::Int(-2))],
-            Row::Ints(&[2, 1, 0, -1, -2]),
+            Row::Pairs(
+                &[b"0", b"1", b"2", b"3", b"4"],
+                &[b"2", b"1", b"0", b"-1", b"-2"],
+            ),
             Row::Same,
         ),
         (
@@ -219,33 +218,25 @@ fn rows_of_numbers(rt: HostRuntime) {
         (
             "array_flip",
             &[Row::Texts(&[b"a", b"b"])],
-            Row::Pairs(&[(At::Text(b"a"), One::Int(0)), (At::Text(b"b"), One::Int(1))]),
+            Row::Pairs(&[b"a", b"b"], &[b"0", b"1"]),
             Row::Same,
         ),
         (
             "array_flip",
-            &[Row::Pairs(&[
-                (At::Text(b"k"), One::Text(b"8")),
-                (At::Text(b"l"), One::Int(5)),
-            ])],
-            Row::Pairs(&[(At::Int(8), One::Text(b"k")), (At::Int(5), One::Text(b"l"))]),
+            &[Row::Pairs(&[b"k", b"l"], &[b"'8", b"5"])],
+            Row::Pairs(&[b"8", b"5"], &[b"'k", b"'l"]),
             Row::Same,
         ),
         (
             "array_flip",
             &[Row::Texts(&[b"x", b"x"])],
-            Row::Pairs(&[(At::Text(b"x"), One::Int(1))]),
+            Row::Pairs(&[b"x"], &[b"1"]),
             Row::Same,
         ),
         (
             "array_flip",
-            &[Row::Pairs(&[
-                (At::Int(0), One::Null),
-                (At::Int(1), One::Truth(true)),
-                (At::Int(2), One::Nothing),
-                (At::Int(3), One::Int(7)),
-            ])],
-            Row::Pairs(&[(At::Int(7), One::Int(3))]),
+            &[Row::Pairs(&[b"0", b"1", b"2", b"3"], &[b"null", b"true", b"[]", b"7"])],
+            Row::Pairs(&[b"7"], &[b"3"]),
             Row::Same,
         ),
         ("array_flip", &[Row::Ints(&[])], Row::Ints(&[]), Row::Same),
@@ -263,34 +254,25 @@ fn rows_of_numbers(rt: HostRuntime) {
         ),
         (
             "array_unique",
-            &[Row::Pairs(&[
-                (At::Int(3), One::Int(1)),
-                (At::Int(5), One::Text(b"1")),
-                (At::Int(7), One::Truth(true)),
-                (At::Int(9), One::Int(2)),
-            ])],
-            Row::Pairs(&[(At::Int(3), One::Int(1)), (At::Int(9), One::Int(2))]),
+            &[Row::Pairs(&[b"3", b"5", b"7", b"9"], &[b"1", b"'1", b"true", b"2"])],
+            Row::Pairs(&[b"3", b"9"], &[b"1", b"2"]),
             Row::Same,
         ),
         (
             "array_unique",
-            &[Row::Pairs(&[
-                (At::Int(0), One::Null),
-                (At::Int(1), One::Text(b"")),
-                (At::Int(2), One::Truth(false)),
-            ])],
-            Row::Pairs(&[(At::Int(0), One::Null)]),
+            &[Row::Pairs(&[b"0", b"1", b"2"], &[b"null", b"'", b"false"])],
+            Row::Pairs(&[b"0"], &[b"null"]),
             Row::Same,
         ),
         (
             "array_unique",
-            &[Row::Pairs(&[(At::Int(0), One::Nothing)])],
+            &[Row::Pairs(&[b"0"], &[b"[]"])],
             Row::Fault(CallFault::Mistyped),
             Row::Same,
         ),
         (
             "array_unique",
-            &[Row::Pairs(&[(At::Int(0), One::Text(b"a")), (At::Int(1), One::Object)])],
+            &[Row::Pairs(&[b"0", b"1"], &[b"'a", b"object"])],
             Row::Fault(CallFault::Mistyped),
             Row::Same,
         ),

@@ -1,8 +1,7 @@
-use Rattle.std.proofs.Common.{rules, ◌≡◌, OnOk, Bool, true, false, List, [], ◌∷◌, Bor}
+use Rattle.std.proofs.Common.{rules, ◌≡◌}
 use Rattle.std.specs.Ordering.{is_lt}
 use Rattle.std.proofs.lemmas.List.Sorted.{ranks_by, IsStrictWeakOrder-flip, answers_always}
 use Rattle.stable_sort.specs.declared.Ranked.{Ranked}
-use Rattle.stable_sort.specs.Sorting.{sort_by}
 use Rattle.stable_sort.proofs.Sorted.{sorted-is, on_ok}
 use Rattle.stable_sort.proofs.sort_down.Goals as goal
 
