@@ -1,3 +1,4 @@
 pub mod Headers
 pub mod Fixed
 pub mod Replies
+pub mod Runs

@@ -1,12 +1,9 @@
 -- The text of a reply (RFC 9112): a status line, headers, an empty line and the body. Each line of the head ends in CR LF.
 use Rattle.std.specs.Prelude.{ℕ, nat_eq, nat_le, nat_lt, Bool, ◌&&◌, ◌||◌, List, [], ◌∷◌, ◌++◌, length, fold, codes, decimal, flat_map, Option, None, Some, unwrap_or, if◌then◌else◌}
-use Rattle.std.specs.Borrow.{Bor}
 use Rattle.std.specs.List.{ends_with}
 use Rattle.http.specs.StatusCode.{reason_phrase}
 use Rattle.reply_text.specs.Headers.{Header, is_named}
-use Rattle.reply_text.specs.declared.script.ScriptEnd.{ScriptEnd}
-use Rattle.reply_text.specs.declared.script.ScriptEnd.TheVariants.{Done, Removed, Budget, Fatal}
-use Rattle.reply_text.specs.declared.script.ScriptRun.{ScriptRun}
+use Rattle.reply_text.specs.Runs.{RunEnd, Done, Removed, Budget, Fatal, RunReply}
 
 abbrev pub line_end : List ℕ
 line_end = 13 ∷ 10 ∷ []
@@ -44,7 +41,7 @@ unfoldable pub removal_page : List ℕ
 removal_page = codes "<p>This part of the application has been removed.</p>\n"
 
 -- the script's own code counts where it came to its end
-abbrev pub code_after : ℕ → ScriptEnd → ℕ
+abbrev pub code_after : ℕ → RunEnd → ℕ
 code_after status Done = status
 code_after status Removed = 403
 code_after status Budget = 503
@@ -55,14 +52,14 @@ unfoldable pub fatal_line : List ℕ → List ℕ → ℕ → List ℕ
 fatal_line name file line = codes "X-Less: fatal " ++ name ++ codes " " ++ file ++ codes ":" ++ decimal line ++ line_end
 
 -- the line `X-Less` of a run's end
-abbrev pub end_line : ScriptEnd → List ℕ
+abbrev pub end_line : RunEnd → List ℕ
 end_line Done = []
 end_line Removed = less_line (codes "removed")
 end_line Budget = less_line (codes "budget")
-end_line (Fatal name file line) = fatal_line name.now file.now line
+end_line (Fatal name file line) = fatal_line name file line
 
 -- what was put out, and the removal page where a removed part was to be entered
-abbrev pub body_after : List ℕ → ScriptEnd → List ℕ
+abbrev pub body_after : List ℕ → RunEnd → List ℕ
 body_after output Done = output
 body_after output Removed = output ++ removal_page
 body_after output Budget = output
@@ -93,27 +90,27 @@ abbrev pub other_lines : List Header → List ℕ
 other_lines headers = flat_map other_line headers
 
 -- the cookie of a new session, by the text of its id
-unfoldable pub cookie_line : Option (Bor (List ℕ)) → List ℕ
+unfoldable pub cookie_line : Option (List ℕ) → List ℕ
 cookie_line None = []
-cookie_line (Some id) = codes "Set-Cookie: PHPSESSID=" ++ id.now ++ codes "; path=/\r\n"
+cookie_line (Some id) = codes "Set-Cookie: PHPSESSID=" ++ id ++ codes "; path=/\r\n"
 
 -- the headers between the content type and the length
-abbrev pub script_lines : ScriptRun → Option (Bor (List ℕ)) → List ℕ
-script_lines run cookie = other_lines run.headers.now ++ cookie_line cookie ++ end_line run.end
+abbrev pub script_lines : RunReply → Option (List ℕ) → List ℕ
+script_lines run cookie = other_lines run.headers ++ cookie_line cookie ++ end_line run.end
 
-unfoldable pub script_head : ScriptRun → Option (Bor (List ℕ)) → ℕ → List ℕ
+unfoldable pub script_head : RunReply → Option (List ℕ) → ℕ → List ℕ
 script_head run cookie body_length =
-    head_front (code_after run.status run.end) (content_type run.headers.now) ++ script_lines run cookie ++ head_back body_length
+    head_front (code_after run.status run.end) (content_type run.headers) ++ script_lines run cookie ++ head_back body_length
 
 -- the body, which is not sent where the method was HEAD
 abbrev pub sent_body : List ℕ → Bool → List ℕ
 sent_body body head_only = if head_only then [] else body
 
-abbrev pub script_body : ScriptRun → List ℕ
-script_body run = body_after run.output.now run.end
+abbrev pub script_body : RunReply → List ℕ
+script_body run = body_after run.output run.end
 
 -- the reply to a request that ran a script
-abbrev pub reply_text : ScriptRun → Option (Bor (List ℕ)) → Bool → List ℕ
+abbrev pub reply_text : RunReply → Option (List ℕ) → Bool → List ℕ
 reply_text run cookie head_only =
     script_head run cookie (length (script_body run)) ++ sent_body (script_body run) head_only
 

@@ -2,6 +2,7 @@
 ghost use Rattle.std.specs.Prelude.{◌≡◌, ◌++◌, ℕ, List, IfOk, OnOk};
 ghost use Rattle.std.specs.Option.{option_map};
 ghost use Rattle.reply_text.specs.Replies as spec;
+ghost use Rattle.reply_text.specs.Runs.{end_of, run_of};
 
 use crate::head::{append_back, append_front};
 use crate::header::HeaderLine;
@@ -35,7 +36,7 @@ pub struct ScriptRun<'r> {
 }
 
 fn code_of(run: &ScriptRun<'_>) -> u16
-    ensures { result ≡ spec.code_after run.now.status run.now.end }
+    ensures { result ≡ spec.code_after run.now.status (end_of run.now.end) }
 {
     match run.end {
         ScriptEnd::Done => run.status,
@@ -48,7 +49,7 @@ fn code_of(run: &ScriptRun<'_>) -> u16
 // What stands behind the output.
 #[tactic(auto, unfolding(crate::specs::Replies::removal_page))]
 fn page_of(end: ScriptEnd<'_>) -> &'static [u8]
-    ensures { (output : List ℕ) → spec.body_after output end.entry ≡ output ++ result.now }
+    ensures { (output : List ℕ) → spec.body_after output (end_of end.entry) ≡ output ++ result.now }
 {
     match end {
         ScriptEnd::Removed => b"<p>This part of the application has been removed.</p>\n",
@@ -111,7 +112,7 @@ fn append_headers(out: &mut Vec<u8>, headers: &[HeaderLine]) -> Result<(), Alloc
 
 #[tactic(auto, unfolding(crate::specs::Replies::cookie_line))]
 fn append_cookie(out: &mut Vec<u8>, cookie: Option<&str>) -> Result<(), AllocError>
-    ensures { OnOk result (out.new.items ≡ out.old.items ++ spec.cookie_line cookie.entry) }
+    ensures { OnOk result (out.new.items ≡ out.old.items ++ spec.cookie_line (option_map (λ id. id.now) cookie.entry)) }
 {
     let Some(id) = cookie else {
         return Ok(());
@@ -137,7 +138,7 @@ fn append_fatal(out: &mut Vec<u8>, name: &str, file: &str, line: u32) -> Result<
 }
 
 fn append_end(out: &mut Vec<u8>, end: ScriptEnd<'_>) -> Result<(), AllocError>
-    ensures { OnOk result (out.new.items ≡ out.old.items ++ spec.end_line end.entry) }
+    ensures { OnOk result (out.new.items ≡ out.old.items ++ spec.end_line (end_of end.entry)) }
 {
     match end {
         ScriptEnd::Done => {}
@@ -154,7 +155,7 @@ fn append_lines(
     run: &ScriptRun<'_>,
     cookie: Option<&str>,
 ) -> Result<(), AllocError>
-    ensures { OnOk result (out.new.items ≡ out.old.items ++ spec.script_lines run.now cookie.entry) }
+    ensures { OnOk result (out.new.items ≡ out.old.items ++ spec.script_lines (run_of run.now) (option_map (λ id. id.now) cookie.entry)) }
 {
     append_headers(out, run.headers)?;
     append_cookie(out, cookie)?;
@@ -169,7 +170,7 @@ fn append_head(
     cookie: Option<&str>,
     body_length: usize,
 ) -> Result<(), AllocError>
-    ensures { OnOk result (out.new.items ≡ out.old.items ++ spec.script_head run.now cookie.entry body_length) }
+    ensures { OnOk result (out.new.items ≡ out.old.items ++ spec.script_head (run_of run.now) (option_map (λ id. id.now) cookie.entry) body_length) }
 {
     append_front(out, code_of(run), content_type(run.headers))?;
     append_lines(out, run, cookie)?;
@@ -185,7 +186,7 @@ pub fn reply_bytes(
     cookie: Option<&str>,
     head_only: bool,
 ) -> Result<Vec<u8>, AllocError>
-    ensures { IfOk result (λ bytes. bytes.items ≡ spec.reply_text run.now cookie.entry head_only) }
+    ensures { IfOk result (λ bytes. bytes.items ≡ spec.reply_text (run_of run.now) (option_map (λ id. id.now) cookie.entry) head_only) }
 {
     let page = page_of(run.end);
     let length = run.output.len() + page.len();
