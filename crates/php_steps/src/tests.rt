@@ -1,0 +1,1 @@
+use crate::{Frame, Now, begin_expr, resume_expr};
