@@ -1,7 +1,8 @@
 -- Which nodes have steps of their own: those that write variables, call, include, or name a constant.
-use Rattle.std.specs.Prelude.{Bool, true, false}
+use Rattle.std.specs.Prelude.{Bool, true, false, List, [], ◌∷◌}
 use Rattle.php_tree.specs.Expressions as e
 use Rattle.php_tree.specs.Expressions.{Expression}
+use Rattle.php_steps.specs.declared.frame.Frame.{Frame}
 use Rattle.php_steps.specs.declared.frame.Now.{Now}
 use Rattle.php_steps.specs.declared.frame.Now.TheVariants as now
 
@@ -19,3 +20,14 @@ has_steps_of_its_own _ = false
 abbrev pub is_node : Now → Bool
 is_node (now.Node how e) = true
 is_node _ = false
+
+abbrev pub is_empty : List Frame → Bool
+is_empty [] = true
+is_empty (f ∷ fs) = false
+
+-- more is next than to evaluate an expression
+abbrev pub is_settled : Now → List Frame → Bool
+is_settled (now.Evaluate e) fs = false
+is_settled (now.Probe e) fs = false
+is_settled (now.Give v) fs = is_empty fs
+is_settled _ fs = true

@@ -11,6 +11,7 @@ mod operate;
 mod outcome;
 mod quote;
 mod resume;
+mod settle;
 #[cfg(test)]
 mod tests;
 
@@ -19,3 +20,4 @@ pub use frame::{ExprFrame, Frame, Now, Printed};
 pub use operate::{before, chained, compared, computed};
 pub use outcome::Outcome;
 pub use resume::resume_expr;
+pub use settle::settle;

@@ -2,8 +2,7 @@
 
 ghost use Rattle.std.specs.Prelude.{◌≡◌, IfOk, option_map};
 ghost use Rattle.php_tree.specs.declared.expr.UnaryOp.TheVariants as unary;
-ghost use Rattle.php_values.specs.Data as data;
-ghost use Rattle.php_values.specs.Data.{data_of};
+ghost use Rattle.php_values.specs.Data.{truth, data_of};
 ghost use Rattle.php_meaning.specs.Constants as constants;
 ghost use Rattle.php_meaning.specs.Operators as meaning;
 ghost use Rattle.php_steps.specs.Outcomes.{Answers, equal_or_not, order_data};
@@ -30,7 +29,7 @@ pub fn computed(alloc: Global, op: ArithOp, a: &Value, b: &Value) -> Result<Outc
 
 /// The value of a chain where its left operand decides it.
 pub(crate) fn decided(op: ChainOp, a: &Value) -> Option<bool>
-    ensures { meaning.decided op (data_of a.now) ≡ option_map data.truth result }
+    ensures { meaning.decided op (data_of a.now) ≡ option_map truth result }
 {
     match op {
         ChainOp::LowOr | ChainOp::Or => if truth(a) { Some(true) } else { None },
