@@ -1,9 +1,10 @@
 -- What is left of a run, from what the machine holds: each frame is what its definition says that follows a part.
-use Rattle.std.specs.Prelude.{List, [], ◌∷◌, not, pos, false, codes}
+use Rattle.std.specs.Prelude.{List, [], ◌∷◌, ◌++◌, not, pos, false, codes}
 use Rattle.php_values.specs.Data.{Data, truth, int, data_of}
 use Rattle.php_values.specs.Convert.{truth_of}
 use Rattle.php_world.specs.Naming.{Naming}
-use Rattle.php_world.specs.Steps.{at, next}
+use Rattle.php_world.specs.Steps.{Step, at, next}
+use Rattle.php_world.specs.View.{path_of}
 use Rattle.php_world.specs.declared.reading.Reading.TheVariants.{Plain, Quiet}
 use Rattle.php_meaning.specs.Events.{Done}
 use Rattle.php_meaning.specs.World.{World}
@@ -11,8 +12,8 @@ use Rattle.php_meaning.specs.Course.{Course, Stops, Ticks, Normal, Then, Does, g
 use Rattle.php_meaning.specs.Refusals.{fatal, throws, plain_error}
 use Rattle.php_meaning.specs.Operators.{as_text, put_out, right_of, compare_right, before_value}
 use Rattle.php_meaning.specs.Constants.{with_element}
-use Rattle.php_meaning.specs.Stores.{indexed}
-use Rattle.php_meaning.specs.Expressions.{read, parts, items, accessed, links, branches, all_set, exit_value, unless_null, and_set, with_text}
+use Rattle.php_meaning.specs.Stores.{indexed, assign_value, step_value}
+use Rattle.php_meaning.specs.Expressions.{read, steps, parts, items, accessed, links, branches, all_set, exit_value, unless_null, and_set, with_text}
 use Rattle.php_steps.specs.Named.{named, all_named, parts_named, items_named, accesses_named, links_named, branches_named}
 use Rattle.php_steps.specs.declared.frame.Printed.{Printed}
 use Rattle.php_steps.specs.declared.frame.Printed.TheVariants.{Nothing, One, End}
@@ -20,8 +21,12 @@ use Rattle.php_steps.specs.declared.frame.Now.{Now}
 use Rattle.php_steps.specs.declared.frame.Now.TheVariants as now
 use Rattle.php_steps.specs.declared.frame.ExprFrame.{ExprFrame}
 use Rattle.php_steps.specs.declared.frame.ExprFrame.TheVariants as f
+use Rattle.php_steps.specs.declared.frame.Target.{Target}
+use Rattle.php_steps.specs.declared.frame.Target.TheVariants as target
+use Rattle.php_steps.specs.declared.frame.PlaceFrame.{PlaceFrame}
+use Rattle.php_steps.specs.declared.frame.PlaceFrame.TheVariants as p
 use Rattle.php_steps.specs.declared.frame.Frame.{Frame}
-use Rattle.php_steps.specs.declared.frame.Frame.TheVariants.{OfExpr}
+use Rattle.php_steps.specs.declared.frame.Frame.TheVariants.{OfExpr, OfPlace}
 
 -- what comes once bytes were put out
 abbrev pub once_printed : Printed → Does
@@ -62,9 +67,20 @@ after_expr t (f.PairOf a i more) k = on_value (λ d. with_element (data_of a) (a
 after_expr t (f.Accessed how more) k = on_value (accessed how (accesses_named t more.now)) k
 after_expr t (f.IndexOf how d more) k = indexed how (data_of d) (accessed how (accesses_named t more.now)) k
 
+-- what is done with a path of keys
+abbrev pub used : Naming → Target → List Step → Does
+used t (target.Assign x op e) path = λ w k. read Plain (named t e.now) w (on_value (assign_value (t.name x) path op) k)
+used t (target.Step x op) path = step_value (t.name x) path op
+
+-- what a frame of a node that writes a variable does with what it is given
+abbrev pub after_place : Naming → PlaceFrame → Then → Then
+after_place t (p.KeyIn path more target) k = on_value (λ d. steps (accesses_named t more.now) (path_of path ++ at d ∷ []) (used t target)) k
+after_place t (p.AssignTo x path op) k = on_value (assign_value (t.name x) (path_of path) op) k
+
 -- what a frame does with what it is given
 abbrev pub after : Naming → Frame → Then → Then
 after t (OfExpr f) k = after_expr t f k
+after t (OfPlace f) k = after_place t f k
 
 -- what frames do with what they are given, the newest first, before what is left below them
 abbrev pub rest : Naming → List Frame → Then → Then

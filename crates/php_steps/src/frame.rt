@@ -2,10 +2,12 @@
 
 use order_map::ByteText;
 use php_meaning::FatalName;
-use php_tree::expr::{Access, Branch, ChainOp, CompareOp, Expr, Item, QuotePart, UnaryOp};
+use php_tree::expr::{
+    Access, AssignOp, Branch, ChainOp, CompareOp, Expr, Item, QuotePart, StepOp, UnaryOp,
+};
 use php_values::Value;
-use php_world::Reading;
-use sqlite_items::Boxed;
+use php_world::{Reading, Step};
+use sqlite_items::{Boxed, Items};
 
 /// What comes once bytes were put out: a statement goes on, `print` has the value 1, and `exit` ends the run.
 #[derive(Clone, Copy, Debug, PartialEq, Eq)]
@@ -65,8 +67,27 @@ pub enum ExprFrame<'a> {
     IndexOf(Reading, Value, &'a [Access<Expr>]),
 }
 
+/// What a path of keys into a variable is for.
+#[derive(Clone, Copy)]
+pub enum Target<'a> {
+    /// `=` and its kin, and the right side.
+    Assign(u32, AssignOp, &'a Boxed<Expr>),
+    /// `++` and `--`.
+    Step(u32, StepOp),
+}
+
+/// What is left of a node that writes a variable. Variables stand by their numbers.
+#[derive(Drop)]
+pub enum PlaceFrame<'a> {
+    /// The path so far, what stands behind the key that is evaluated, and what the path is for.
+    KeyIn(Items<Step>, &'a [Access<Expr>], Target<'a>),
+    /// A value is waited for, for a place.
+    AssignTo(u32, Items<Step>, AssignOp),
+}
+
 /// What waits for the end of what runs.
 #[derive(Drop)]
 pub enum Frame<'a> {
     OfExpr(ExprFrame<'a>),
+    OfPlace(PlaceFrame<'a>),
 }

@@ -16,7 +16,7 @@ mod settle;
 mod tests;
 
 pub use begin::begin_expr;
-pub use frame::{ExprFrame, Frame, Now, Printed};
+pub use frame::{ExprFrame, Frame, Now, PlaceFrame, Printed, Target};
 pub use operate::{before, chained, compared, computed};
 pub use outcome::Outcome;
 pub use resume::resume_expr;

@@ -34,20 +34,32 @@ pub(crate) fn value_refused(fault: ValueFault) -> Result<FatalName, AllocError>
     }
 }
 
-/// The fatal of arithmetic that was refused.
-pub(crate) fn operand_refused(op: ArithOp, fault: ValueFault) -> Result<FatalName, AllocError>
+// The fatal of arithmetic on numbers and arrays that was refused.
+fn number_refused(fault: ValueFault) -> Result<FatalName, AllocError>
     ensures fault_is { OnOk result (fault ≢ value.Memory) }
-    ensures law { IfOk result (λ why. operators.refused_by op fault ≡ fails why) }
+    ensures law { IfOk result (λ why. meaning.operand_refused fault ≡ fails why) }
 {
-    if let ArithOp::Join = op {
-        return text_refused(fault);
-    }
     match fault {
         ValueFault::Float => Ok(FatalName::Float),
         ValueFault::Kind => Ok(FatalName::Uncaught),
         ValueFault::Size => Ok(FatalName::Size),
         ValueFault::Zero => Ok(FatalName::Uncaught),
         ValueFault::Memory => Err(AllocError),
+    }
+}
+
+/// The fatal of an operation that was refused.
+pub(crate) fn operand_refused(op: ArithOp, fault: ValueFault) -> Result<FatalName, AllocError>
+    ensures fault_is { OnOk result (fault ≢ value.Memory) }
+    ensures law { IfOk result (λ why. operators.refused_by op fault ≡ fails why) }
+{
+    match op {
+        ArithOp::Add => number_refused(fault),
+        ArithOp::Subtract => number_refused(fault),
+        ArithOp::Multiply => number_refused(fault),
+        ArithOp::Divide => number_refused(fault),
+        ArithOp::Remainder => number_refused(fault),
+        ArithOp::Join => text_refused(fault),
     }
 }
 

@@ -30,6 +30,10 @@ pub fn settle<'a>(
             Now::Probe(e) => begin_expr(alloc, Reading::Quiet, e, store, stack)?,
             Now::Give(value) => match stack.pop() {
                 Some(Frame::OfExpr(frame)) => resume_expr(alloc, frame, value, store, stack)?,
+                Some(other) => {
+                    stack.push(other)?;
+                    return Ok(Now::Give(value));
+                }
                 None => return Ok(Now::Give(value)),
             },
             other => return Ok(other),

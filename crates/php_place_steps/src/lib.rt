@@ -1,0 +1,12 @@
+//! Steps of a run: how a node that writes a variable begins, and what its frames do with a value.
+#![tactic(auto)]
+
+mod begin;
+mod resume;
+mod root;
+mod write;
+
+pub use begin::begin_place;
+pub use resume::resume_place;
+pub use root::root;
+pub use write::{assign, step};
