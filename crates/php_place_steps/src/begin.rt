@@ -1,12 +1,14 @@
 // How a node that writes a variable begins.
 
-ghost use Rattle.std.specs.Prelude.{◌≡◌, IfOk};
+ghost use Rattle.std.specs.Prelude.{◌≡◌, not, IfOk};
 ghost use Rattle.php_tree.specs.ExpressionOf.{expression_of};
 ghost use Rattle.php_world.specs.View.{path_of};
 ghost use Rattle.php_meaning.specs.Expressions as expressions;
 ghost use Rattle.php_steps.specs.Laws.{Reads, Writes};
 ghost use Rattle.php_steps.specs.Named.{named, accesses_named};
+ghost use Rattle.php_steps.specs.Nodes.{is_node};
 ghost use Rattle.php_steps.specs.Rest.{used};
+ghost use Rattle.php_place_steps.specs.Nodes.{writes_variable};
 
 use crate::root::root;
 use crate::write::step;

@@ -4,9 +4,13 @@
 mod begin;
 mod resume;
 mod root;
+mod settle;
+#[cfg(test)]
+mod tests;
 mod write;
 
 pub use begin::begin_place;
 pub use resume::resume_place;
 pub use root::root;
+pub use settle::settle;
 pub use write::{assign, step};

@@ -34,9 +34,9 @@ pub(crate) fn go_on<'a>(
             }
         }
         [Branch::Short(no), more @ ..] => {
-            let holds = truth(&value);
+            let kept = truth(&value);
             stack.push(Frame::OfExpr(ExprFrame::Branches(more)))?;
-            if holds {
+            if kept {
                 Ok(Now::Give(value))
             } else {
                 Ok(Now::Evaluate(no))

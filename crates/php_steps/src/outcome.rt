@@ -21,7 +21,7 @@ pub enum Outcome {
 }
 
 /// The fatal of a conversion or comparison that was refused.
-pub(crate) fn value_refused(fault: ValueFault) -> Result<FatalName, AllocError>
+pub fn value_refused(fault: ValueFault) -> Result<FatalName, AllocError>
     ensures fault_is { OnOk result (fault ≢ value.Memory) }
     ensures law { IfOk result (λ why. meaning.value_refused fault ≡ fails why) }
 {
@@ -49,7 +49,7 @@ fn number_refused(fault: ValueFault) -> Result<FatalName, AllocError>
 }
 
 /// The fatal of an operation that was refused.
-pub(crate) fn operand_refused(op: ArithOp, fault: ValueFault) -> Result<FatalName, AllocError>
+pub fn operand_refused(op: ArithOp, fault: ValueFault) -> Result<FatalName, AllocError>
     ensures fault_is { OnOk result (fault ≢ value.Memory) }
     ensures law { IfOk result (λ why. operators.refused_by op fault ≡ fails why) }
 {
@@ -64,7 +64,7 @@ pub(crate) fn operand_refused(op: ArithOp, fault: ValueFault) -> Result<FatalNam
 }
 
 /// The fatal of a value that has no text.
-pub(crate) fn text_refused(fault: ValueFault) -> Result<FatalName, AllocError>
+pub fn text_refused(fault: ValueFault) -> Result<FatalName, AllocError>
     ensures fault_is { OnOk result (fault ≢ value.Memory) }
     ensures law { IfOk result (λ why. meaning.text_refused fault ≡ fails why) }
 {
@@ -78,7 +78,7 @@ pub(crate) fn text_refused(fault: ValueFault) -> Result<FatalName, AllocError>
 }
 
 /// The fatal of a place that is not read or written.
-pub(crate) fn place_refused(fault: PlaceFault) -> Result<FatalName, AllocError>
+pub fn place_refused(fault: PlaceFault) -> Result<FatalName, AllocError>
     ensures fault_is { OnOk result (fault ≢ place.Memory) }
     ensures law { IfOk result (λ why. meaning.place_refused fault ≡ fails why) }
 {

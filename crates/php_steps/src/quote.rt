@@ -28,7 +28,7 @@ use std::alloc::{AllocError, Global};
 const MAX_TEXT_BYTES: usize = 0x10_0000;
 
 /// What a variable holds.
-pub(crate) fn variable(store: &Store, number: u32) -> Result<Value, AllocError>
+pub fn variable(store: &Store, number: u32) -> Result<Value, AllocError>
     ensures { IfOk result (λ v. (t : Naming) → data_of v ≡ value_of (t.name number) (vars_of t store.now)) }
 {
     match store.value(number as usize) {

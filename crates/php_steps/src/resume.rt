@@ -19,8 +19,8 @@ use php_values::{Value, to_text, truth};
 use php_world::Store;
 use std::alloc::{AllocError, Global};
 
-// What an operation gave.
-fn give<'a>(outcome: Outcome) -> Now<'a>
+/// What an operation gave comes next.
+pub fn give<'a>(outcome: Outcome) -> Now<'a>
     ensures { (t : _) → next_of t result ≡ done_by outcome }
 {
     match outcome {
