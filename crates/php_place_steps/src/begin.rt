@@ -10,7 +10,7 @@ ghost use Rattle.php_steps.specs.Nodes.{is_node};
 ghost use Rattle.php_steps.specs.Rest.{used};
 ghost use Rattle.php_place_steps.specs.Nodes.{writes_variable};
 
-use crate::root::root;
+use crate::root::rooted_in;
 use crate::write::step;
 use backward_list::Backward;
 use order_map::ByteText;
@@ -88,7 +88,7 @@ pub fn begin_place<'a>(
     ensures other { IfOk result (λ now. is_node now ≡ not (writes_variable (expression_of e.now))) }
 {
     match e {
-        Expr::Assign(place, op, value, _) => match root(place.get()) {
+        Expr::Assign(place, op, value, _) => match rooted_in(place.get()) {
             Some((number, accesses)) => {
                 let target = Target::Assign(number, *op, value);
                 let now = go_on(alloc, Items::new(alloc), accesses, target, store, stack)?;
@@ -96,7 +96,7 @@ pub fn begin_place<'a>(
             }
             None => Ok(Now::Fail(FatalName::Uncaught)),
         },
-        Expr::Step(op, place, _) => match root(place.get()) {
+        Expr::Step(op, place, _) => match rooted_in(place.get()) {
             Some((number, accesses)) => {
                 let target = Target::Step(number, *op);
                 let now = go_on(alloc, Items::new(alloc), accesses, target, store, stack)?;

@@ -11,6 +11,6 @@ mod write;
 
 pub use begin::begin_place;
 pub use resume::resume_place;
-pub use root::root;
-pub use settle::settle;
+pub use root::rooted_in;
+pub use settle::settle_place;
 pub use write::{assign, step};

@@ -9,7 +9,7 @@ use php_tree::expr::{Access, Expr};
 
 /// The variable of a place by its number, with the indexes and properties behind it. Other expressions have none.
 #[tactic(auto, using(php_tree::proofs::Expressions::expressions))]
-pub fn root<'a>(place: &'a Expr) -> Option<(u32, &'a [Access<Expr>])>
+pub fn rooted_in<'a>(place: &'a Expr) -> Option<(u32, &'a [Access<Expr>])>
     ensures { MatchOption result (root_of (expression_of place.now) ≡ None) (λ r. root_of (expression_of place.now) ≡ Some (r.0, accesses_of r.1.now)) }
 {
     match place {

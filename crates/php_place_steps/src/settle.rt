@@ -15,7 +15,7 @@ use std::alloc::{AllocError, Global};
 
 /// Takes steps until something comes next that is more than to evaluate an expression or to write a variable: bytes, an
 /// end, another node with steps of its own, or a value for which nothing waits.
-pub fn settle<'a>(
+pub fn settle_place<'a>(
     alloc: Global,
     now: Now<'a>,
     store: &mut Store,

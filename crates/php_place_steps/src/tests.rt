@@ -1,4 +1,4 @@
-use crate::settle;
+use crate::settle_place;
 use backward_list::Backward;
 use php_meaning::FatalName;
 use php_steps::Now;
@@ -50,7 +50,7 @@ fn twice(alloc: Global, head: Expr, first: Expr, second: Expr) -> Result<Expr, F
 // What an expression comes to: a number, or what the run does.
 fn shown(alloc: Global, e: &Expr, store: &mut Store) -> Result<i64, Fail> {
     let mut stack = Backward::new(alloc);
-    match settle(alloc, Now::Evaluate(e), store, &mut stack)? {
+    match settle_place(alloc, Now::Evaluate(e), store, &mut stack)? {
         Now::Give(Value::Null) => Ok(-100),
         Now::Give(Value::Int(n)) => Ok(n),
         Now::Give(Value::Bytes(text)) => Ok(1000 + text.len() as i64),

@@ -1,1 +1,4 @@
-pub mod Reads
+pub mod Meanings
+pub mod Begun
+pub mod Lists
+pub mod Rows

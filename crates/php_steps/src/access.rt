@@ -28,19 +28,21 @@ pub(crate) fn go_on<'a>(
 {
     match accesses {
         [] => Ok(Now::Give(value)),
-        [Access::Index(key), more @ ..] => {
-            stack.push(Frame::OfExpr(ExprFrame::IndexOf(how, value, more)))?;
-            Ok(Now::Evaluate(key))
-        }
-        [Access::Append, more @ ..] => {
-            stack.push(Frame::OfExpr(ExprFrame::Accessed(how, more)))?;
-            Ok(Now::Give(value))
-        }
-        [Access::Property(_), more @ ..] => {
-            stack.push(Frame::OfExpr(ExprFrame::Accessed(how, more)))?;
-            Ok(Now::Give(Value::Null))
-        }
-        [Access::Method(_, _), ..] => Ok(Now::FailAfterTick(FatalName::Uncaught)),
+        [first, more @ ..] => match first {
+            Access::Index(key) => {
+                stack.push(Frame::OfExpr(ExprFrame::IndexOf(how, value, more)))?;
+                Ok(Now::Evaluate(key))
+            }
+            Access::Append => {
+                stack.push(Frame::OfExpr(ExprFrame::Accessed(how, more)))?;
+                Ok(Now::Give(value))
+            }
+            Access::Property(_) => {
+                stack.push(Frame::OfExpr(ExprFrame::Accessed(how, more)))?;
+                Ok(Now::Give(Value::Null))
+            }
+            Access::Method(_, _) => Ok(Now::FailAfterTick(FatalName::Uncaught)),
+        },
     }
 }
 

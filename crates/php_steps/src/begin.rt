@@ -27,7 +27,7 @@ fn reading_of(is_place: bool, how: Reading) -> Reading
 }
 
 /// Begins an expression. A node with steps of its own is handed back.
-#[tactic(auto, using(crate::proofs::Reads::reads, php_tree::proofs::Expressions::expressions))]
+#[tactic(auto, using(crate::proofs::Meanings::reads, php_tree::proofs::Expressions::expressions))]
 pub fn begin_expr<'a>(
     alloc: Global,
     how: Reading,

@@ -26,13 +26,13 @@ pub(crate) fn go_on<'a>(
 {
     match links {
         [] => Ok(Now::Give(left)),
-        [(op, right), more @ ..] => {
-            if let Some(b) = decided(*op, &left) {
+        [link, more @ ..] => {
+            if let Some(b) = decided(link.0, &left) {
                 stack.push(Frame::OfExpr(ExprFrame::Links(more)))?;
                 return Ok(Now::Give(Value::Bool(b)));
             }
-            stack.push(Frame::OfExpr(ExprFrame::RightOf(*op, left, more)))?;
-            Ok(Now::Evaluate(right))
+            stack.push(Frame::OfExpr(ExprFrame::RightOf(link.0, left, more)))?;
+            Ok(Now::Evaluate(&link.1))
         }
     }
 }

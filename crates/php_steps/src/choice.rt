@@ -1,10 +1,11 @@
 // `? :`, `isset` and the ends by `exit`.
 
-ghost use Rattle.std.specs.Prelude.{◌≡◌, IfOk};
+ghost use Rattle.std.specs.Prelude.{◌≡◌, false, IfOk};
 ghost use Rattle.php_values.specs.Data.{data_of};
 ghost use Rattle.php_meaning.specs.Operators as meaning;
 ghost use Rattle.php_meaning.specs.Expressions as expressions;
 ghost use Rattle.php_steps.specs.Laws.{Steps};
+ghost use Rattle.php_steps.specs.Nodes.{is_node};
 ghost use Rattle.php_steps.specs.Rest.{next_of};
 ghost use Rattle.php_steps.specs.Named.{all_named, branches_named};
 
@@ -24,24 +25,26 @@ pub(crate) fn go_on<'a>(
 {
     match branches {
         [] => Ok(Now::Give(value)),
-        [Branch::Full(yes, no), more @ ..] => {
-            let holds = truth(&value);
-            stack.push(Frame::OfExpr(ExprFrame::Branches(more)))?;
-            if holds {
-                Ok(Now::Evaluate(yes))
-            } else {
-                Ok(Now::Evaluate(no))
+        [first, more @ ..] => match first {
+            Branch::Full(yes, no) => {
+                let holds = truth(&value);
+                stack.push(Frame::OfExpr(ExprFrame::Branches(more)))?;
+                if holds {
+                    Ok(Now::Evaluate(yes))
+                } else {
+                    Ok(Now::Evaluate(no))
+                }
             }
-        }
-        [Branch::Short(no), more @ ..] => {
-            let kept = truth(&value);
-            stack.push(Frame::OfExpr(ExprFrame::Branches(more)))?;
-            if kept {
-                Ok(Now::Give(value))
-            } else {
-                Ok(Now::Evaluate(no))
+            Branch::Short(no) => {
+                let kept = truth(&value);
+                stack.push(Frame::OfExpr(ExprFrame::Branches(more)))?;
+                if kept {
+                    Ok(Now::Give(value))
+                } else {
+                    Ok(Now::Evaluate(no))
+                }
             }
-        }
+        },
     }
 }
 
@@ -56,7 +59,8 @@ pub(crate) fn all_set<'a>(
     asked: &'a [Expr],
     stack: &mut Backward<Frame<'a>>,
 ) -> Result<Now<'a>, AllocError>
-    ensures { IfOk result (Steps stack.old stack.new (λ t. expressions.all_set (all_named t asked.now))) }
+    ensures law { IfOk result (Steps stack.old stack.new (λ t. expressions.all_set (all_named t asked.now))) }
+    ensures plain { IfOk result (λ now. is_node now ≡ false) }
 {
     match asked {
         [] => Ok(Now::Give(Value::Bool(true))),

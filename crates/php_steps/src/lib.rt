@@ -21,4 +21,4 @@ pub use operate::{before, chained, compared, computed};
 pub use outcome::{Outcome, operand_refused, place_refused, text_refused, value_refused};
 pub use quote::variable;
 pub use resume::{give, resume_expr};
-pub use settle::settle;
+pub use settle::settle_expr;

@@ -1,12 +1,13 @@
 // Array literals.
 
-ghost use Rattle.std.specs.Prelude.{IfOk};
+ghost use Rattle.std.specs.Prelude.{◌≡◌, false, IfOk};
 ghost use Rattle.php_values.specs.Data.{data_of};
 ghost use Rattle.php_world.specs.Steps as steps;
 ghost use Rattle.php_world.specs.View.{step_of};
 ghost use Rattle.php_meaning.specs.Constants.{with_element};
 ghost use Rattle.php_meaning.specs.Expressions as expressions;
 ghost use Rattle.php_steps.specs.Laws.{Steps};
+ghost use Rattle.php_steps.specs.Nodes.{is_node};
 ghost use Rattle.php_steps.specs.Named.{items_named};
 
 use crate::frame::{ExprFrame, Frame, Now};
@@ -23,18 +24,21 @@ pub(crate) fn go_on<'a>(
     items: &'a [Item<Expr>],
     stack: &mut Backward<Frame<'a>>,
 ) -> Result<Now<'a>, AllocError>
-    ensures { IfOk result (Steps stack.old stack.new (λ t. expressions.items (items_named t items.now) (data_of array))) }
+    ensures law { IfOk result (Steps stack.old stack.new (λ t. expressions.items (items_named t items.now) (data_of array))) }
+    ensures plain { IfOk result (λ now. is_node now ≡ false) }
 {
     match items {
         [] => Ok(Now::Give(array)),
-        [Item::Value(value), more @ ..] => {
-            stack.push(Frame::OfExpr(ExprFrame::ItemOf(array, more)))?;
-            Ok(Now::Evaluate(value))
-        }
-        [Item::Pair(key, value), more @ ..] => {
-            stack.push(Frame::OfExpr(ExprFrame::KeyOf(array, value, more)))?;
-            Ok(Now::Evaluate(key))
-        }
+        [first, more @ ..] => match first {
+            Item::Value(value) => {
+                stack.push(Frame::OfExpr(ExprFrame::ItemOf(array, more)))?;
+                Ok(Now::Evaluate(value))
+            }
+            Item::Pair(key, value) => {
+                stack.push(Frame::OfExpr(ExprFrame::KeyOf(array, value, more)))?;
+                Ok(Now::Evaluate(key))
+            }
+        },
     }
 }
 

@@ -1,6 +1,6 @@
 // Texts with parts that are evaluated.
 
-ghost use Rattle.std.specs.Prelude.{◌≡◌, [], ◌∷◌, IfOk};
+ghost use Rattle.std.specs.Prelude.{◌≡◌, [], ◌∷◌, false, IfOk};
 ghost use Rattle.php_values.specs.Data.{data_of};
 ghost use Rattle.php_world.specs.Naming.{Naming};
 ghost use Rattle.php_world.specs.Variables.{value_of};
@@ -11,6 +11,7 @@ ghost use Rattle.php_meaning.specs.Operators as meaning;
 ghost use Rattle.php_meaning.specs.Stores.{place_read};
 ghost use Rattle.php_meaning.specs.Expressions as expressions;
 ghost use Rattle.php_steps.specs.Laws.{Reads};
+ghost use Rattle.php_steps.specs.Nodes.{is_node};
 ghost use Rattle.php_steps.specs.Rest.{next_of};
 ghost use Rattle.php_steps.specs.Named.{key_named, parts_named};
 
@@ -61,7 +62,8 @@ fn read_one<'a>(
     step: Step,
     store: &Store,
 ) -> Result<Now<'a>, AllocError>
-    ensures { IfOk result (λ now. (t : Naming) (w : World) (k : Then) → next_of t now (with_vars (vars_of t store.now) w) k ≡ place_read (t.name number) (step_of step ∷ []) give (with_vars (vars_of t store.now) w) k) }
+    ensures plain { IfOk result (λ now. is_node now ≡ false) }
+    ensures law { IfOk result (λ now. (t : Naming) (w : World) (k : Then) → next_of t now (with_vars (vars_of t store.now) w) k ≡ place_read (t.name number) (step_of step ∷ []) give (with_vars (vars_of t store.now) w) k) }
 {
     match store.read(alloc, Reading::Plain, number as usize, &[step]) {
         Ok(value) => Ok(Now::Give(value)),
@@ -77,7 +79,8 @@ pub(crate) fn go_on<'a>(
     store: &Store,
     stack: &mut Backward<Frame<'a>>,
 ) -> Result<Now<'a>, AllocError>
-    ensures { IfOk result (Reads store.now stack.old stack.new (λ t. expressions.parts (parts_named t parts.now) so_far)) }
+    ensures law { IfOk result (Reads store.now stack.old stack.new (λ t. expressions.parts (parts_named t parts.now) so_far)) }
+    ensures plain { IfOk result (λ now. is_node now ≡ false) }
 {
     match parts {
         [] => Ok(Now::Give(Value::Bytes(so_far))),

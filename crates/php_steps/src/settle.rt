@@ -14,7 +14,7 @@ use std::alloc::{AllocError, Global};
 
 /// Takes steps until something comes next that is more than to evaluate an expression: bytes, an end, a node with steps of
 /// its own, or a value for which nothing waits.
-pub fn settle<'a>(
+pub fn settle_expr<'a>(
     alloc: Global,
     now: Now<'a>,
     store: &Store,

@@ -1,4 +1,4 @@
-use crate::{Now, Printed, settle};
+use crate::{Now, Printed, settle_expr};
 use backward_list::Backward;
 use order_map::ByteText;
 use php_meaning::FatalName;
@@ -81,7 +81,7 @@ fn store_with_array(alloc: Global) -> Result<Store, Fail> {
 fn shown(alloc: Global, e: &Expr) -> Result<Vec<u8>, Fail> {
     let store = store_with_array(alloc)?;
     let mut stack = Backward::new(alloc);
-    let now = settle(alloc, Now::Evaluate(e), &store, &mut stack)?;
+    let now = settle_expr(alloc, Now::Evaluate(e), &store, &mut stack)?;
     let mut out = Vec::new(alloc);
     match now {
         Now::Give(Value::Null) => out.extend_from_slice(b"null")?,
