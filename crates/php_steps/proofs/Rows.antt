@@ -35,9 +35,7 @@ use Rattle.php_steps.specs.declared.frame.ExprFrame.TheVariants as f
 use Rattle.php_steps.specs.declared.frame.Frame.{Frame}
 use Rattle.php_steps.specs.declared.frame.Frame.TheVariants.{OfExpr}
 use Rattle.php_steps.specs.Named.{named, all_named, parts_named, items_named, accesses_named, links_named, branches_named, key_named}
-use Rattle.php_steps.specs.declared.frame.Now.{Now}
-use Rattle.php_steps.specs.declared.frame.Now.TheVariants as now
-use Rattle.php_steps.specs.Rest.{rest, next_of}
+use Rattle.php_steps.specs.Rest.{rest}
 
 take-all : {A : Type 0} (xs : List A) → take (length xs) xs ≡ xs
 take-all [] = refl
@@ -50,7 +48,7 @@ cut (x ∷ xs) d e = let n : suc (length xs) - 1 ≡ length xs = omega arith in 
 
 -- a list by its first element, which is known
 pub first_of : {A : Type 0} (l : List A) (x y : A) → 1 ≤ length l → x ≡ slice_index_or l 0 x → x ≡ y → l ≡ y ∷ take (length l - 1) (drop 1 l)
-first_of l x y len at is = cut l x len ∙ ap (λ z. z ∷ take (length l - 1) (drop 1 l)) (sym at ∙ is)
+first_of l x y len there is = cut l x len ∙ ap (λ z. z ∷ take (length l - 1) (drop 1 l)) (sym there ∙ is)
 
 -- ---- chains
 
@@ -152,9 +150,3 @@ go-member n p y all m x s s' t w k c is push text law =
     law ∙ (λ j. place_read (t.name n) (member (text j) ∷ []) give w (rest t (push j) k))
     ∙ read_on (t.name n) (member p.text ∷ []) (with_text x (parts (parts_named t m.now))) w (rest t s k)
     ∙ ap (λ l. parts (parts_named t l) x w (rest t s k)) (sym is)
-
--- ---- a value for which a frame of another kind waits
-
-pub settled : (t : Naming) (v : Value) (n : Now) (s s' s1 : List Frame) (g : Frame) (w : World) (k : Then) (c : Course) → n ≡ now.Give v → s ≡ g ∷ s1 → s' ≡ g ∷ s1
-    → next_of t n w (rest t s k) ≡ c → give (data_of v) w (rest t s' k) ≡ c
-settled t v n s s' s1 g w k c is popped pushed law = (λ i. next_of t (sym is i) w (rest t ((pushed ∙ sym popped) i) k)) ∙ law

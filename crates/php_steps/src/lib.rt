@@ -11,7 +11,6 @@ mod operate;
 mod outcome;
 mod quote;
 mod resume;
-mod settle;
 #[cfg(test)]
 mod tests;
 
@@ -21,4 +20,3 @@ pub use operate::{before, chained, compared, computed};
 pub use outcome::{Outcome, operand_refused, place_refused, text_refused, value_refused};
 pub use quote::variable;
 pub use resume::{give, resume_expr};
-pub use settle::settle_expr;

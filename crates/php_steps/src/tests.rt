@@ -1,4 +1,4 @@
-use crate::{Now, Printed, settle_expr};
+use crate::{Frame, Now, Printed, begin_expr, resume_expr};
 use backward_list::Backward;
 use order_map::ByteText;
 use php_meaning::FatalName;
@@ -7,9 +7,9 @@ use php_tree::expr::{
 };
 use php_tree::name::{ClassName, ConstName, MemberName};
 use php_values::Value;
-use php_world::{Change, Step, Store};
+use php_world::{Change, Reading, Step, Store};
 use sqlite_items::{Boxed, Items};
-use std::alloc::Global;
+use std::alloc::{AllocError, Global};
 use std::test::Fail;
 
 const A: u32 = 6;
@@ -77,11 +77,33 @@ fn store_with_array(alloc: Global) -> Result<Store, Fail> {
     Ok(store)
 }
 
+// Steps up to output, an end, a node with steps of its own, or a value for which nothing waits.
+fn settled<'a>(
+    alloc: Global,
+    now: Now<'a>,
+    store: &Store,
+    stack: &mut Backward<Frame<'a>>,
+) -> Result<Now<'a>, AllocError> {
+    let mut now = now;
+    for _ in 0..1000u32 {
+        now = match now {
+            Now::Evaluate(e) => begin_expr(alloc, Reading::Plain, e, store, stack)?,
+            Now::Probe(e) => begin_expr(alloc, Reading::Quiet, e, store, stack)?,
+            Now::Give(value) => match stack.pop() {
+                Some(Frame::OfExpr(frame)) => resume_expr(alloc, frame, value, store, stack)?,
+                _ => return Ok(Now::Give(value)),
+            },
+            other => return Ok(other),
+        };
+    }
+    Err(AllocError)
+}
+
 // What an expression comes to, as a text: a value's bytes or number, or what the run does.
 fn shown(alloc: Global, e: &Expr) -> Result<Vec<u8>, Fail> {
     let store = store_with_array(alloc)?;
     let mut stack = Backward::new(alloc);
-    let now = settle_expr(alloc, Now::Evaluate(e), &store, &mut stack)?;
+    let now = settled(alloc, Now::Evaluate(e), &store, &mut stack)?;
     let mut out = Vec::new(alloc);
     match now {
         Now::Give(Value::Null) => out.extend_from_slice(b"null")?,
