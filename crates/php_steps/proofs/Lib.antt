@@ -1,0 +1,4 @@
+pub mod Meanings
+pub mod Begun
+pub mod Lists
+pub mod Rows
