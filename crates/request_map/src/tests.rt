@@ -199,13 +199,13 @@ fn pieces_of_any_size_give_the_same_request(rt: HostRuntime) -> Result<(), Fail>
 fn each_read_that_fails_is_told(rt: HostRuntime) -> Result<(), Fail> {
     let alloc = rt.alloc();
     let bytes = b"POST / HTTP/1.0\r\nContent-Length: 9\r\n\r\nhow is it";
-    let mut failed = 0;
+    let mut failed = 0u32;
     for call in 0..60 {
         let mut link = link_of(alloc, bytes, 3, &[call])?;
         let fault = read_request(alloc, &mut link).err();
         if link.read_faults() == 1 {
             assert!(rt; fault == Some(RequestFault::Link));
-            failed += 1;
+            failed = failed.wrapping_add(1);
         } else {
             assert!(rt; fault == None);
         }
