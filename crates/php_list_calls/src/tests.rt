@@ -31,9 +31,6 @@ pub(crate) enum Row {
     Fault(CallFault),
 }
 
-// A call by its name with its arguments, what it gives, and its first argument after it.
-pub(crate) type Case<'a> = (&'static str, &'a [Row], Row, Row);
-
 fn array(alloc: Global, map: OrderMap<Value>) -> Result<Value, CallFault> {
     Ok(Value::List(ArrayValue::new(alloc, map)?))
 }
@@ -143,9 +140,13 @@ fn leaves(alloc: Global, values: &[Value], args: &[Row], after: Row) -> Result<b
     }
 }
 
-// Whether the call of a name gives what the row says, and leaves what it says.
-fn holds(alloc: Global, case: Case<'_>) -> Result<bool, CallFault> {
-    let (name, args, expected, after) = case;
+fn answers(
+    alloc: Global,
+    name: &str,
+    args: &[Row],
+    expected: Row,
+    after: Row,
+) -> Result<bool, CallFault> {
     let Some(call) = list_call_named(name) else {
         return Ok(false);
     };
@@ -159,14 +160,12 @@ fn holds(alloc: Global, case: Case<'_>) -> Result<bool, CallFault> {
     Ok(given && left)
 }
 
-pub(crate) fn all_hold(alloc: Global, cases: &[Case<'_>]) -> bool {
-    for case in cases {
-        match holds(alloc, *case) {
-            Ok(true) => {}
-            _ => return false,
-        }
+// Whether the call of a name gives what is expected, and leaves its first argument as a row says.
+pub(crate) fn holds(alloc: Global, name: &str, args: &[Row], expected: Row, after: Row) -> bool {
+    match answers(alloc, name, args, expected, after) {
+        Ok(b) => b,
+        Err(_) => false,
     }
-    true
 }
 
 // A call of one array: what it gives, and the array after it.
