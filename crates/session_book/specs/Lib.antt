@@ -1,0 +1,7 @@
+pub mod Codes
+pub mod Kept
+pub mod Marks
+pub mod Sizes
+pub mod Ids
+pub mod Steps
+pub mod Slots
