@@ -30,7 +30,7 @@ keys_in (pair k d ps) = k ∷ keys_in ps
 
 -- no key stands twice, and the next key is above every number key
 abbrev pub is_keyed : Pairs → ℕ → Bool
-is_keyed ps next = all_distinct (keys_in ps) && all_below next (keys_in ps) && nat_le next spent
+is_keyed ps next = all_distinct (keys_in ps) && (all_below next (keys_in ps) && nat_le next spent)
 
 -- the same at every depth of pairs' values
 abbrev mutual

@@ -27,9 +27,15 @@ innermost [] = no_pairs
 innermost (ps ∷ pss) = ps
 
 -- what is still to come of the open lists, the innermost first, where a mark stands before what is to come then
+abbrev pub with_pair : Key → Data → List Pairs → List Pairs
+with_pair k d pss = pair k d (innermost pss) ∷ drop 1 pss
+
+abbrev pub with_list : Key → ℕ → List Pairs → List Pairs
+with_list k next pss = pair k (array (of_pairs (innermost pss) next)) (innermost (drop 1 pss)) ∷ drop 1 (drop 1 pss)
+
 abbrev pub with_mark : Mark → List Pairs → List Pairs
-with_mark (Pair k s) pss = pair (key_data k) (scalar_data s) (innermost pss) ∷ drop 1 pss
-with_mark (Open k next) pss = pair (key_data k) (array (of_pairs (innermost pss) next)) (innermost (drop 1 pss)) ∷ drop 1 (drop 1 pss)
+with_mark (Pair k s) pss = with_pair (key_data k) (scalar_data s) pss
+with_mark (Open k next) pss = with_list (key_data k) next pss
 with_mark Close pss = no_pairs ∷ pss
 
 abbrev pub with_marks : List Mark → List Pairs → List Pairs

@@ -1,9 +1,12 @@
 -- What single marks add, and what walks and lists that are being made have to do with marks.
-use Rattle.std.specs.Prelude.{List, [], ◌∷◌, ◌++◌, ℕ, ◌+◌, drop, reverse, ◌≡◌, ◌≤◌, Bool, true, ◌&&◌, IsTrue, Option, Some, None, option_map}
+use Rattle.std.specs.Prelude.{List, [], ◌∷◌, ◌++◌, ℕ, ◌+◌, drop, reverse, ◌≡◌, ◌≤◌, Bool, true, false, ◌&&◌, IsTrue, Option, Some, None, option_map}
+use Rattle.std.specs.declared.result.Result.{Result}
+use Rattle.std.specs.declared.result.Result.TheVariants.{Ok, Err}
+use Rattle.std.specs.declared.alloc.AllocError.{AllocError}
 use Rattle.order_map.specs.declared.key.Key.{Key}
 use Rattle.order_map.specs.declared.key.Key.TheVariants.{Text}
 use Rattle.order_map.specs.Arrays.{pairs_of, next_of}
-use Rattle.php_values.specs.Data.{Data, array, ArrayData, of_pairs, Pairs, no_pairs, pair, data_pairs}
+use Rattle.php_values.specs.Data.{Data, array, ArrayData, of_pairs, Pairs, no_pairs, pair, data_pairs, array_of}
 use Rattle.php_values.specs.Compare.{value_of}
 use Rattle.php_values.specs.Arithmetic.{put_last}
 use Rattle.php_values.specs.Walks.{rest_of}
@@ -87,3 +90,9 @@ whole_of m pss = completed (reverse m.above.items) (data_pairs (pairs_of m.map))
 pub record CanTake (making : Making) (m : Mark) : Type 0 where
   pub rest : List Pairs
   pub sound : IsTrue (is_sound_array (whole_of making (with_mark m rest)))
+
+-- a mark was taken: what was still to come behind it is still to come, or it ended the outermost list, which is whole
+abbrev pub IsTaken : Making → Making → Mark → Result Bool AllocError → Type 0
+IsTaken old new m (Ok true) = (pss : List Pairs) → whole_of new pss ≡ whole_of old (with_mark m pss)
+IsTaken old new m (Ok false) = (pss : List Pairs) → array_of new.map ≡ whole_of old (with_mark m pss)
+IsTaken old new m (Err e) = Unit {0}

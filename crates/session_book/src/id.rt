@@ -55,9 +55,12 @@ fn push_digits(text: &mut String, n: u128, count: usize) -> Result<(), AllocErro
     requires { count ≤ 32 }
     ensures { OnOk result (string_bytes text.new ≡ string_bytes text.old ++ spec.digits count n) }
 {
-    for place in (0..count).rev() {
+    let mut place = count;
+    while place > 0 {
+        place -= 1;
         let low = (n >> (4 * place)) % 16;
-        text.push(char::from(digit(low as u8)))?;
+        let byte = digit(low as u8);
+        text.push(char::from(byte))?;
     }
     Ok(())
 }

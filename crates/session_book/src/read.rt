@@ -1,11 +1,12 @@
 // Arrays of what a session keeps.
 
-ghost use Rattle.std.specs.Prelude.{◌≡◌, ◌≤◌, ◌<◌, List, None, true, false, length, IfOk, OnOk};
+ghost use Rattle.std.specs.Prelude.{◌≡◌, ◌≤◌, ◌<◌, List, [], None, IsTrue, length, IfOk, OnOk};
 ghost use Rattle.order_map.specs.Keys.{spent, next_after};
 ghost use Rattle.order_map.specs.Arrays.{pairs_of, next_of, look};
-ghost use Rattle.php_values.specs.Data.{data_of, data_pairs, array_of, Pairs};
+ghost use Rattle.php_values.specs.Data.{data_of, data_pairs, array_of, Pairs, no_pairs};
 ghost use Rattle.php_values.specs.Arithmetic.{put_last};
 ghost use Rattle.session_book.specs.Steps.{CanTake, IsTaken, whole_of};
+ghost use Rattle.session_book.specs.Marks.{with_list};
 ghost use Rattle.session_book.specs.declared.mark.Mark.TheVariants.{Close};
 
 use crate::mark::Mark;
@@ -43,7 +44,7 @@ fn add(map: &mut OrderMap<Value>, key: Key, value: Value) -> Result<(), AllocErr
 // An array with no pair and a next key.
 fn empty(alloc: Global, next: u64) -> OrderMap<Value>
     requires { next ≤ spent }
-    ensures pairs { data_pairs (pairs_of result) ≡ Pairs.no_pairs }
+    ensures pairs { data_pairs (pairs_of result) ≡ no_pairs }
     ensures next { next_of result ≡ next }
 {
     let mut map = OrderMap::new(alloc);
@@ -55,7 +56,7 @@ impl Making {
     // Begins a list under a key.
     fn open(&mut self, alloc: Global, key: Key, next: u64) -> Result<(), AllocError>
         requires { next ≤ spent }
-        ensures { OnOk result (self.new.above.items ≡ self.old.above.items ++ record { map = self.old.map; key = key } ∷ []) }
+        ensures { OnOk result ((pss : List Pairs) → whole_of self.new pss ≡ whole_of self.old (with_list key next pss)) }
     {
         let outer = mem::replace(&mut self.map, empty(alloc, next));
         self.above.push(Outer { map: outer, key })?;
@@ -64,6 +65,9 @@ impl Making {
 
     // Ends the innermost list; false where it is the outermost one, which stays.
     fn close(&mut self, alloc: Global) -> Result<bool, AllocError>
+        requires { CanTake self.old Close }
+        ensures taken { IsTaken self.old self.new Close result }
+        ensures falls { IfOk result (λ goes. IsTrue goes → length self.new.above.items < length self.old.above.items) }
     {
         let Some(Outer { map, key }) = self.above.pop() else {
             return Ok(false);
@@ -104,9 +108,11 @@ pub fn to_array(alloc: Global, value: &SessionValue) -> Result<ArrayValue, Alloc
     };
     for mark in value.marks.as_slice() {
         if !making.take(alloc, mark)? {
-            return ArrayValue::new(alloc, making.map);
+            let array = ArrayValue::new(alloc, making.map)?;
+            return Ok(array);
         }
     }
     while making.close(alloc)? {}
-    ArrayValue::new(alloc, making.map)
+    let array = ArrayValue::new(alloc, making.map)?;
+    Ok(array)
 }

@@ -39,7 +39,7 @@ pub(crate) enum Turn<'a> {
     Goes(usize),
 }
 
-fn turn<'a>(mark: &'a Mark, key: &[u8], depth: usize) -> Turn<'a>
+fn pass<'a>(mark: &'a Mark, key: &[u8], depth: usize) -> Turn<'a>
     requires { depth + 1 < 2 ^ 64 }
     ensures value { TurnIs key.now depth mark.now result }
     ensures within { GoesWithin (depth + 1) result }
@@ -73,7 +73,7 @@ impl SessionValue {
     {
         let mut depth = 0;
         for mark in self.marks.as_slice() {
-            match turn(mark, key, depth) {
+            match pass(mark, key, depth) {
                 Turn::Ends(text) => return text,
                 Turn::Goes(next) => depth = next,
             }

@@ -58,8 +58,8 @@ fn flat<'a>(key: SessionKey, scalar: Scalar) -> Step<'a>
     }
 }
 
-fn step<'a>(alloc: Global, key: &Key, seen: Seen<'a>) -> Result<Step<'a>, AllocError>
-    ensures { IfOk result (λ s. Adds key.now (without_objects (seen_data seen)) s.mark (inside_of s.inside)) }
+fn step_of<'a>(alloc: Global, key: &Key, seen: Seen<'a>) -> Result<Step<'a>, AllocError>
+    ensures { IfOk result (λ s. Adds key.now (without_objects (seen_data seen.entry)) s.mark (inside_of s.inside)) }
 {
     let key = SessionKey::of(alloc, key)?;
     Ok(match seen {
@@ -88,7 +88,7 @@ fn marks_of(alloc: Global, map: &OrderMap<Value>) -> Result<Vec<Mark>, AllocErro
             walk = outer;
             continue;
         };
-        let Step { mark, inside } = step(alloc, key, look_at(value))?;
+        let Step { mark, inside } = step_of(alloc, key, look_at(value))?;
         marks.push(mark)?;
         if let Some(inner) = inside {
             above.push(mem::replace(&mut walk, inner))?;

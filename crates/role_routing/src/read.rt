@@ -1,0 +1,201 @@
+// Files of roles.
+
+ghost use Rattle.std.specs.Prelude.{◌≡◌, ◌<◌, [], None, map, length, IfOk, option_map, string_bytes};
+ghost use Rattle.toml.specs.View.{view, array_view, table_view};
+ghost use Rattle.std.specs.List.{list_any};
+ghost use Rattle.std.specs.Str.{bytes_eq};
+ghost use Rattle.role_routing.specs.Forms.{bad_key};
+ghost use Rattle.role_routing.specs.Files as spec;
+ghost use Rattle.role_routing.specs.Names.{user_of, keep_of};
+ghost use Rattle.role_routing.specs.Held.{roles_data};
+ghost use Rattle.role_routing.specs.Outcomes.{Gives, texts_shown};
+
+use crate::fault::RolesFault;
+use crate::forms::bad_key;
+use crate::roles::Roles;
+use std::alloc::{AllocError, Global};
+use toml::value::Array;
+use toml::{Table, Value, table_from_slice};
+
+/// The greatest length of the file, in bytes.
+const MAX_FILE: usize = 1 << 20;
+
+fn parsed(alloc: Global, bytes: &[u8]) -> Result<Table, RolesFault>
+    ensures { Gives (λ table. table_view table) (spec.parsed bytes.now) result }
+{
+    match table_from_slice(alloc, bytes) {
+        Ok(table) => Ok(table),
+        Err(error) => {
+            if error.is_memory() {
+                return Err(RolesFault::Memory);
+            }
+            Err(RolesFault::BadToml)
+        }
+    }
+}
+
+fn well_formed(alloc: Global, table: Table) -> Result<Table, RolesFault>
+    ensures { Gives (λ table. table_view table) (spec.well_formed (table_view table)) result }
+{
+    if let Some(key) = bad_key(&table) {
+        return Err(RolesFault::BadForm(String::from_str(alloc, key)?));
+    }
+    Ok(table)
+}
+
+fn text_of(value: &Value) -> &str
+    ensures { result.now ≡ spec.text_of (view value.now) }
+{
+    value.as_str().unwrap_or("")
+}
+
+fn texts(alloc: Global, items: &Array) -> Result<Vec<String>, AllocError>
+    ensures { IfOk result (λ texts. map string_bytes texts.items ≡ spec.texts_of (array_view items.now)) }
+{
+    let mut texts = Vec::new(alloc);
+    for item in items {
+        texts.push(String::from_str(alloc, text_of(item))?)?;
+    }
+    Ok(texts)
+}
+
+fn list_of(alloc: Global, value: Option<&Value>) -> Result<Vec<String>, AllocError>
+    ensures { IfOk result (λ texts. map string_bytes texts.items ≡ spec.list_of (option_map (λ v. view v.now) value)) }
+{
+    let Some(value) = value else {
+        return Ok(Vec::new(alloc));
+    };
+    let Some(items) = value.as_array() else {
+        return Ok(Vec::new(alloc));
+    };
+    let texts = texts(alloc, items)?;
+    Ok(texts)
+}
+
+// The name of the guest's role.
+fn guest_name(table: &Table) -> Option<&str>
+    ensures { option_map (λ name. name.now) result ≡ spec.guest_text (table_view table.now) }
+{
+    match table.get("guest") {
+        Some(value) => Some(text_of(value)),
+        None => None,
+    }
+}
+
+// Whether a name is among others.
+fn has_name(names: &[String], name: &[u8]) -> bool
+    ensures { result ≡ list_any (bytes_eq name.now) (map string_bytes names.now) }
+{
+    names.iter().any(|own| name == own.as_bytes())
+}
+
+// The first name that stands again.
+fn again(names: &[String]) -> Option<&String>
+    ensures { option_map (λ name. string_bytes name.now) result ≡ spec.again [] (map string_bytes names.now) }
+{
+    for (place, name) in names.iter().enumerate() {
+        if has_name(names.split_at(place).0, name.as_bytes()) {
+            return Some(name);
+        }
+    }
+    None
+}
+
+fn role_names(alloc: Global, table: &Table) -> Result<Vec<String>, RolesFault>
+    ensures { Gives texts_shown (spec.role_names (table_view table.now)) result }
+{
+    let names = list_of(alloc, table.get("roles"))?;
+    if let Some(name) = again(names.as_slice()) {
+        return Err(RolesFault::Twice(name.clone()?));
+    }
+    Ok(names)
+}
+
+// The number of a role.
+fn number_of(alloc: Global, names: &[String], name: &str) -> Result<u8, RolesFault>
+    requires { length names.now < 256 }
+    ensures { Gives (λ n. n) (spec.number_of (map string_bytes names.now) name.now) result }
+{
+    let mut number = 1;
+    for own in names {
+        if own.as_bytes() == name.as_bytes() {
+            return Ok(number);
+        }
+        number += 1;
+    }
+    Err(RolesFault::UnknownRole(String::from_str(alloc, name)?))
+}
+
+fn users_of(
+    alloc: Global,
+    names: &[String],
+    value: Option<&Value>,
+) -> Result<Vec<(String, u8)>, RolesFault>
+    requires { length names.now < 256 }
+    ensures { Gives (λ users. map user_of users.items) (spec.users_of (map string_bytes names.now) (spec.table_of (option_map (λ v. view v.now) value))) result }
+{
+    let mut users = Vec::new(alloc);
+    let Some(table) = value.and_then(Value::as_table) else {
+        return Ok(users);
+    };
+    for (user, role) in table.iter() {
+        let number = number_of(alloc, names, text_of(role))?;
+        users.push((user.clone()?, number))?;
+    }
+    Ok(users)
+}
+
+fn keep_of(
+    alloc: Global,
+    names: &[String],
+    value: Option<&Value>,
+) -> Result<Vec<(u8, Vec<String>)>, RolesFault>
+    requires { length names.now < 256 }
+    ensures { Gives (λ lists. map keep_of lists.items) (spec.keep_of (map string_bytes names.now) (spec.table_of (option_map (λ v. view v.now) value))) result }
+{
+    let mut lists = Vec::new(alloc);
+    let Some(table) = value.and_then(Value::as_table) else {
+        return Ok(lists);
+    };
+    for (role, texts) in table.iter() {
+        let number = number_of(alloc, names, role.as_str())?;
+        lists.push((number, list_of(alloc, Some(texts))?))?;
+    }
+    Ok(lists)
+}
+
+// The roles of a table whose values have their forms.
+fn roles_in(alloc: Global, table: &Table) -> Result<Roles, RolesFault>
+    requires { bad_key (table_view table.now) ≡ None }
+    ensures { Gives roles_data (spec.roles_in (table_view table.now)) result }
+{
+    let Some(guest) = guest_name(table) else {
+        return Err(RolesFault::NoGuest);
+    };
+    let names = role_names(alloc, table)?;
+    let guest = number_of(alloc, names.as_slice(), guest)?;
+    let users = users_of(alloc, names.as_slice(), table.get("users"))?;
+    let keep = keep_of(alloc, names.as_slice(), table.get("keep"))?;
+    Ok(Roles {
+        names,
+        guest,
+        users,
+        keep,
+    })
+}
+
+/// Reads a file of roles: TOML with the keys `guest`, `roles`, `users` and `keep`. Refused are, the first of them told: a
+/// file above 1 MiB, a text that is no TOML, the first key in byte order that is unknown or whose value is of another
+/// form, no guest, a role that stands twice, and a role that is unknown, as guest, in `users` and in `keep`.
+#[tactic(auto, unfolding(crate::specs::Files::roles_of))]
+pub fn read_roles(alloc: Global, bytes: &[u8]) -> Result<Roles, RolesFault>
+    ensures { Gives roles_data (spec.roles_of bytes.now) result }
+{
+    if bytes.len() > MAX_FILE {
+        return Err(RolesFault::BadForm(String::from_str(alloc, "length")?));
+    }
+    let table = parsed(alloc, bytes)?;
+    let table = well_formed(alloc, table)?;
+    let roles = roles_in(alloc, &table)?;
+    Ok(roles)
+}
