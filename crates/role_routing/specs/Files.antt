@@ -1,12 +1,11 @@
 -- What a file of roles comes to.
-use Rattle.std.specs.Prelude.{List, [], ◌∷◌, ◌++◌, ℕ, ◌+◌, ◌^◌, Bool, true, false, nat_le, length, codes, if◌then◌else◌, Option, Some, None, option_map}
+use Rattle.std.specs.Prelude.{List, [], ◌∷◌, ℕ, ◌+◌, ◌^◌, Bool, true, false, nat_le, length, codes, if◌then◌else◌, Option, Some, None, option_map}
 use Rattle.std.specs.declared.result.Result.{Result}
 use Rattle.std.specs.declared.result.Result.TheVariants.{Ok, Err}
-use Rattle.std.specs.List.{list_any}
 use Rattle.std.specs.Str.{bytes_eq, is_utf8}
 use Rattle.toml.specs.Data.{Data, string, array, table, Items, no_items, item, Members, no_members, member, get_member}
 use Rattle.toml.specs.Parse.{parse_document}
-use Rattle.role_routing.specs.Names.{RolesData}
+use Rattle.role_routing.specs.Names.{RolesData, again}
 use Rattle.role_routing.specs.Forms.{bad_key}
 
 -- why a file is refused
@@ -77,10 +76,6 @@ guest_or None = Err no_guest
 guest_or (Some name) = Ok name
 
 -- the names of the roles, of which none stands twice; the first that stands again is told
-abbrev pub again : List (List ℕ) → List (List ℕ) → Option (List ℕ)
-again before [] = None
-again before (n ∷ ns) = if list_any (bytes_eq n) before then Some n else again (before ++ n ∷ []) ns
-
 abbrev pub unless_again : List (List ℕ) → Option (List ℕ) → Judged (List (List ℕ))
 unless_again ns None = Ok ns
 unless_again ns (Some n) = Err (twice n)

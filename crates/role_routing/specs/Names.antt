@@ -1,5 +1,5 @@
 -- Roles.
-use Rattle.std.specs.Prelude.{List, [], ◌∷◌, ℕ, Bool, true, ◌&&◌, not, nat_le, length, map, String, Vec, string_bytes}
+use Rattle.std.specs.Prelude.{List, [], ◌∷◌, ◌++◌, ℕ, Bool, ◌&&◌, nat_le, length, map, if◌then◌else◌, Option, Some, None, is_none, String, Vec, string_bytes}
 use Rattle.std.specs.List.{list_all, list_any}
 use Rattle.std.specs.Str.{bytes_eq}
 use Rattle.std.specs.declared.alloc.Global.{Global}
@@ -26,13 +26,14 @@ data_of names guest users keep = record { names = map string_bytes names; guest 
 abbrev pub max_roles : ℕ
 max_roles = 16
 
-abbrev pub all_different : List (List ℕ) → Bool
-all_different [] = true
-all_different (n ∷ ns) = not (list_any (bytes_eq n) ns) && all_different ns
+-- the first of some names that stands again, behind others
+abbrev pub again : List (List ℕ) → List (List ℕ) → Option (List ℕ)
+again before [] = None
+again before (n ∷ ns) = if list_any (bytes_eq n) before then Some n else again (before ++ n ∷ []) ns
 
 -- 1 to 16 names of a role's form, none twice
 abbrev pub are_names : List (List ℕ) → Bool
-are_names ns = (nat_le 1 (length ns) && nat_le (length ns) max_roles) && (list_all is_role ns && all_different ns)
+are_names ns = (nat_le 1 (length ns) && nat_le (length ns) max_roles) && (list_all is_role ns && is_none (again [] ns))
 
 -- a role's number, of so many roles
 abbrev pub is_number : ℕ → ℕ → Bool

@@ -1,6 +1,6 @@
 // The forms of what stands in a file of roles.
 
-ghost use Rattle.std.specs.Prelude.{◌≡◌, option_map};
+ghost use Rattle.std.specs.Prelude.{◌≡◌, ◌≤◌, length, option_map};
 ghost use Rattle.std.specs.List.{position_or_len};
 ghost use Rattle.toml.specs.View.{view, array_view, table_view};
 ghost use Rattle.role_routing.specs.Forms as spec;
@@ -24,11 +24,10 @@ fn is_part(part: &[u8]) -> bool
 
 // The place of the first `#`, or the end.
 fn hash_place(text: &[u8]) -> usize
-    ensures { result ≡ position_or_len spec.is_hash text.now }
+    ensures value { result ≡ position_or_len spec.is_hash text.now }
+    ensures within { result ≤ length text.now }
 {
-    text.iter()
-        .position(|&byte| byte == b'#')
-        .unwrap_or(text.len())
+    text.iter().take_while(|&&byte| byte != b'#').count()
 }
 
 fn is_keep_text(text: &[u8]) -> bool

@@ -1,12 +1,12 @@
 // Files of roles.
 
-ghost use Rattle.std.specs.Prelude.{◌≡◌, ◌<◌, [], None, map, length, IfOk, option_map, string_bytes};
+ghost use Rattle.std.specs.Prelude.{◌≡◌, ◌<◌, ◌+◌, [], None, map, length, IfOk, IfSome, option_map, string_bytes};
 ghost use Rattle.toml.specs.View.{view, array_view, table_view};
 ghost use Rattle.std.specs.List.{list_any};
 ghost use Rattle.std.specs.Str.{bytes_eq};
 ghost use Rattle.role_routing.specs.Forms.{bad_key};
 ghost use Rattle.role_routing.specs.Files as spec;
-ghost use Rattle.role_routing.specs.Names.{user_of, keep_of};
+ghost use Rattle.role_routing.specs.Names as named;
 ghost use Rattle.role_routing.specs.Held.{roles_data};
 ghost use Rattle.role_routing.specs.Outcomes.{Gives, texts_shown};
 
@@ -20,6 +20,7 @@ use toml::{Table, Value, table_from_slice};
 /// The greatest length of the file, in bytes.
 const MAX_FILE: usize = 1 << 20;
 
+#[tactic(auto, unfolding(crate::specs::Files::parsed))]
 fn parsed(alloc: Global, bytes: &[u8]) -> Result<Table, RolesFault>
     ensures { Gives (λ table. table_view table) (spec.parsed bytes.now) result }
 {
@@ -34,6 +35,7 @@ fn parsed(alloc: Global, bytes: &[u8]) -> Result<Table, RolesFault>
     }
 }
 
+#[tactic(auto, unfolding(crate::specs::Files::well_formed))]
 fn well_formed(alloc: Global, table: Table) -> Result<Table, RolesFault>
     ensures { Gives (λ table. table_view table) (spec.well_formed (table_view table)) result }
 {
@@ -91,9 +93,10 @@ fn has_name(names: &[String], name: &[u8]) -> bool
 
 // The first name that stands again.
 fn again(names: &[String]) -> Option<&String>
-    ensures { option_map (λ name. string_bytes name.now) result ≡ spec.again [] (map string_bytes names.now) }
+    ensures { option_map (λ name. string_bytes name.now) result ≡ named.again [] (map string_bytes names.now) }
 {
-    for (place, name) in names.iter().enumerate() {
+    for place in 0..names.len() {
+        let name = &names[place];
         if has_name(names.split_at(place).0, name.as_bytes()) {
             return Some(name);
         }
@@ -101,6 +104,7 @@ fn again(names: &[String]) -> Option<&String>
     None
 }
 
+#[tactic(auto, unfolding(crate::specs::Files::role_names))]
 fn role_names(alloc: Global, table: &Table) -> Result<Vec<String>, RolesFault>
     ensures { Gives texts_shown (spec.role_names (table_view table.now)) result }
 {
@@ -111,19 +115,29 @@ fn role_names(alloc: Global, table: &Table) -> Result<Vec<String>, RolesFault>
     Ok(names)
 }
 
+// The place of a role's name, from 0.
+fn place_of(names: &[String], name: &[u8]) -> Option<usize>
+    ensures value { option_map (λ i. i + 1) result ≡ spec.number_from 1 name.now (map string_bytes names.now) }
+    ensures within { IfSome result (λ i. i < length names.now) }
+{
+    for place in 0..names.len() {
+        if names[place].as_bytes() == name {
+            return Some(place);
+        }
+    }
+    None
+}
+
 // The number of a role.
+#[tactic(auto, unfolding(crate::specs::Files::number_of))]
 fn number_of(alloc: Global, names: &[String], name: &str) -> Result<u8, RolesFault>
     requires { length names.now < 256 }
     ensures { Gives (λ n. n) (spec.number_of (map string_bytes names.now) name.now) result }
 {
-    let mut number = 1;
-    for own in names {
-        if own.as_bytes() == name.as_bytes() {
-            return Ok(number);
-        }
-        number += 1;
+    match place_of(names, name.as_bytes()) {
+        Some(place) => Ok(place as u8 + 1),
+        None => Err(RolesFault::UnknownRole(String::from_str(alloc, name)?)),
     }
-    Err(RolesFault::UnknownRole(String::from_str(alloc, name)?))
 }
 
 fn users_of(
@@ -132,7 +146,7 @@ fn users_of(
     value: Option<&Value>,
 ) -> Result<Vec<(String, u8)>, RolesFault>
     requires { length names.now < 256 }
-    ensures { Gives (λ users. map user_of users.items) (spec.users_of (map string_bytes names.now) (spec.table_of (option_map (λ v. view v.now) value))) result }
+    ensures { Gives (λ users. map named.user_of users.items) (spec.users_of (map string_bytes names.now) (spec.table_of (option_map (λ v. view v.now) value))) result }
 {
     let mut users = Vec::new(alloc);
     let Some(table) = value.and_then(Value::as_table) else {
@@ -151,7 +165,7 @@ fn keep_of(
     value: Option<&Value>,
 ) -> Result<Vec<(u8, Vec<String>)>, RolesFault>
     requires { length names.now < 256 }
-    ensures { Gives (λ lists. map keep_of lists.items) (spec.keep_of (map string_bytes names.now) (spec.table_of (option_map (λ v. view v.now) value))) result }
+    ensures { Gives (λ lists. map named.keep_of lists.items) (spec.keep_of (map string_bytes names.now) (spec.table_of (option_map (λ v. view v.now) value))) result }
 {
     let mut lists = Vec::new(alloc);
     let Some(table) = value.and_then(Value::as_table) else {
@@ -165,6 +179,7 @@ fn keep_of(
 }
 
 // The roles of a table whose values have their forms.
+#[tactic(auto, unfolding(crate::specs::Files::roles_in))]
 fn roles_in(alloc: Global, table: &Table) -> Result<Roles, RolesFault>
     requires { bad_key (table_view table.now) ≡ None }
     ensures { Gives roles_data (spec.roles_in (table_view table.now)) result }

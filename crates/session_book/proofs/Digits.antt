@@ -1,8 +1,9 @@
 -- Numbers and their hexadecimal digits.
-use Rattle.std.proofs.Common.{◌≡◌, ℕ, zero, suc, ◌+◌, ◌-◌, ◌*◌, ◌/◌, ◌%◌, ◌^◌, ◌<◌, ◌≤◌, ◌&&◌, ◌||◌, Bool, true, false, List, [], ◌∷◌, ◌++◌, ◌==◌, length, length-append, append_assoc, take, drop, get_or, refl, sym, ap, subst, ◌∙◌, IsTrue, arith, rules}
+use Rattle.std.proofs.Common.{◌≡◌, ℕ, zero, suc, ◌+◌, ◌-◌, ◌*◌, ◌/◌, ◌%◌, ◌^◌, ◌<◌, ◌≤◌, ◌&&◌, ◌||◌, Bool, true, false, List, [], ◌∷◌, ◌++◌, ◌==◌, length, length-append, append_assoc, append-nil, take, drop, get_or, refl, sym, ap, subst, ◌∙◌, IsTrue, arith, rules}
 use Rattle.std.proofs.Math.Nat.{pow-le-pow_right, mul-le-mul_left}
 use Rattle.std.proofs.Math.Arith.{mod-mul}
 use Rattle.std.proofs.lemmas.Nat.{pow-add, mod-mul-add}
+use Rattle.std.proofs.lemmas.Bool.{false≢true}
 use Rattle.std.proofs.lemmas.Bool.Decides.{nat_tests}
 use Rattle.std.proofs.lemmas.List.{drop_more, take_at, drop_at}
 use Rattle.std.proofs.lemmas.List.Folds.{list_all-append}
@@ -128,14 +129,19 @@ unfolding digits
 push-step t zero n h = absurd (omega arith)
 push-step t (suc p) n h = let e : suc p - 1 ≡ p = omega arith in rw e (append_assoc t (digit (n / 2 ^ (4 * p) % 16) ∷ []) (digits p n))
 
+pub digits-none : (t : List ℕ) (p n : ℕ) → p ≤ 0 → t ++ digits p n ≡ t
+unfolding digits
+digits-none t zero n h = append-nil t
+digits-none t (suc p) n h = absurd (omega arith)
+
 same_length : (t : List ℕ) → IsTrue (length t == 34) → length t ≡ 34
 same_length t h = grind (arith, nat_tests)
 
 pub id-back : (t : List ℕ) (s d : ℕ) → is_id_text t ≡ true → s ≡ number 0 (take 2 t) → d ≡ number 0 (drop 2 t) → digits 2 s ++ digits 32 d ≡ t
-id-back [] s d h es ed = absurd (let l = same_length [] (and_left _ _ h) in omega arith)
-id-back (a ∷ []) s d h es ed = absurd (let l = same_length (a ∷ []) (and_left _ _ h) in omega arith)
+id-back [] s d h es ed = absurd (false≢true h)
+id-back (a ∷ []) s d h es ed = absurd (false≢true h)
 id-back (a ∷ b ∷ t) s d h es ed =
-    let l = same_length (a ∷ b ∷ t) (and_left _ _ h) in
+    let l = same_length (a ∷ b ∷ t) (and_left (length (a ∷ b ∷ t) == 34) (list_all is_digit (a ∷ b ∷ t)) h) in
     let k : length t ≡ 32 = omega arith in
     let all = and_right (length (a ∷ b ∷ t) == 34) _ h in
     let da = and_left (is_digit a) _ all in

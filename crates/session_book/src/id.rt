@@ -60,7 +60,8 @@ fn push_digits(text: &mut String, n: u128, count: usize) -> Result<(), AllocErro
         place -= 1;
         let low = (n >> (4 * place)) % 16;
         let byte = digit(low as u8);
-        text.push(char::from(byte))?;
+        let letter = char::from(byte);
+        text.push(letter)?;
     }
     Ok(())
 }

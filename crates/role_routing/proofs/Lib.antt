@@ -1,0 +1,4 @@
+pub mod Walks
+pub mod Judging
+pub mod Forms
+pub mod Sound
