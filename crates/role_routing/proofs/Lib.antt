@@ -1,4 +1,3 @@
-pub mod Walks
 pub mod Judging
 pub mod Forms
 pub mod Sound

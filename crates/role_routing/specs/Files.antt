@@ -3,7 +3,7 @@ use Rattle.std.specs.Prelude.{List, [], ◌∷◌, ℕ, ◌+◌, ◌^◌, Bool, 
 use Rattle.std.specs.declared.result.Result.{Result}
 use Rattle.std.specs.declared.result.Result.TheVariants.{Ok, Err}
 use Rattle.std.specs.Str.{bytes_eq, is_utf8}
-use Rattle.toml.specs.Data.{Data, string, array, table, Items, no_items, item, Members, no_members, member, get_member}
+use Rattle.toml.specs.Data.{Data, string, array, table, Items, no_items, item, Members, no_members, member, get_member, as_table}
 use Rattle.toml.specs.Parse.{parse_document}
 use Rattle.role_routing.specs.Names.{RolesData, again}
 use Rattle.role_routing.specs.Forms.{bad_key}
@@ -62,10 +62,16 @@ list_of None = []
 list_of (Some (array ds)) = texts_of ds
 list_of (Some _) = []
 
+abbrev pub table_in : Option Data → Option Members
+table_in None = None
+table_in (Some d) = as_table d
+
+abbrev pub members_or : Option Members → Members
+members_or None = no_members
+members_or (Some ms) = ms
+
 abbrev pub table_of : Option Data → Members
-table_of None = no_members
-table_of (Some (table ms)) = ms
-table_of (Some _) = no_members
+table_of value = members_or (table_in value)
 
 -- the name of the guest's role, if there is one
 abbrev pub guest_text : Members → Option (List ℕ)

@@ -58,7 +58,7 @@ fn is_keep_value(value: &Value) -> bool
 fn are_role_values(items: &Array) -> bool
     ensures { result ≡ spec.all_items spec.is_role_value (array_view items.now) }
 {
-    for item in items {
+    'items: for item in items {
         if !is_role_value(item) {
             return false;
         }
@@ -69,7 +69,7 @@ fn are_role_values(items: &Array) -> bool
 fn are_keep_values(items: &Array) -> bool
     ensures { result ≡ spec.all_items spec.is_keep_value (array_view items.now) }
 {
-    for item in items {
+    'items: for item in items {
         if !is_keep_value(item) {
             return false;
         }

@@ -55,8 +55,9 @@ fn texts(alloc: Global, items: &Array) -> Result<Vec<String>, AllocError>
     ensures { IfOk result (λ texts. map string_bytes texts.items ≡ spec.texts_of (array_view items.now)) }
 {
     let mut texts = Vec::new(alloc);
-    for item in items {
-        texts.push(String::from_str(alloc, text_of(item))?)?;
+    'items: for item in items {
+        let text = String::from_str(alloc, text_of(item))?;
+        texts.push(text)?;
     }
     Ok(texts)
 }
@@ -67,11 +68,13 @@ fn list_of(alloc: Global, value: Option<&Value>) -> Result<Vec<String>, AllocErr
     let Some(value) = value else {
         return Ok(Vec::new(alloc));
     };
-    let Some(items) = value.as_array() else {
-        return Ok(Vec::new(alloc));
-    };
-    let texts = texts(alloc, items)?;
-    Ok(texts)
+    match value.as_array() {
+        Some(items) => {
+            let texts = texts(alloc, items)?;
+            Ok(texts)
+        }
+        None => Ok(Vec::new(alloc)),
+    }
 }
 
 // The name of the guest's role.
@@ -140,6 +143,16 @@ fn number_of(alloc: Global, names: &[String], name: &str) -> Result<u8, RolesFau
     }
 }
 
+// The table that a value is.
+fn table_in(value: Option<&Value>) -> Option<&Table>
+    ensures { option_map (λ t. table_view t.now) result ≡ spec.table_in (option_map (λ v. view v.now) value) }
+{
+    match value {
+        Some(value) => value.as_table(),
+        None => None,
+    }
+}
+
 fn users_of(
     alloc: Global,
     names: &[String],
@@ -149,12 +162,13 @@ fn users_of(
     ensures { Gives (λ users. map named.user_of users.items) (spec.users_of (map string_bytes names.now) (spec.table_of (option_map (λ v. view v.now) value))) result }
 {
     let mut users = Vec::new(alloc);
-    let Some(table) = value.and_then(Value::as_table) else {
+    let Some(table) = table_in(value) else {
         return Ok(users);
     };
-    for (user, role) in table.iter() {
+    'users: for (user, role) in table.iter() {
         let number = number_of(alloc, names, text_of(role))?;
-        users.push((user.clone()?, number))?;
+        let name = user.clone()?;
+        users.push((name, number))?;
     }
     Ok(users)
 }
@@ -168,12 +182,13 @@ fn keep_of(
     ensures { Gives (λ lists. map named.keep_of lists.items) (spec.keep_of (map string_bytes names.now) (spec.table_of (option_map (λ v. view v.now) value))) result }
 {
     let mut lists = Vec::new(alloc);
-    let Some(table) = value.and_then(Value::as_table) else {
+    let Some(table) = table_in(value) else {
         return Ok(lists);
     };
-    for (role, texts) in table.iter() {
+    'lists: for (role, texts) in table.iter() {
         let number = number_of(alloc, names, role.as_str())?;
-        lists.push((number, list_of(alloc, Some(texts))?))?;
+        let texts = list_of(alloc, Some(texts))?;
+        lists.push((number, texts))?;
     }
     Ok(lists)
 }

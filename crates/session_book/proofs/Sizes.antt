@@ -52,7 +52,7 @@ sum-step size new one n rest whole en eo h = omega arith
 pub summed-step : (ms : List Mark) (size i : ℕ) (m : Mark) (one n : ℕ) → Summed ms size i → i < length ms → m ≡ get_or ms i m → one ≡ min (mark_size m) 18446744073709551615 → n ≡ min (size + one) 18446744073709551615 → Summed ms n (i + 1)
 summed-step ms size i m one n h l e eo en = record {
   sum = sum-step size (mark_size m) one n (marks_size (drop (i + 1) ms)) (min (5 + marks_size ms) 18446744073709551615) en eo
-    (sym (ap (λ l. min (size + marks_size l) 18446744073709551615) (drop-item ms i m l e)) ∙ h.sum);
+      (sym (ap (λ l. min (size + marks_size l) 18446744073709551615) (drop-item ms i m l e)) ∙ h.sum);
   within = omega arith;
 }
 

@@ -73,7 +73,11 @@ impl Making {
             return Ok(false);
         };
         let inner = mem::replace(&mut self.map, map);
-        add(&mut self.map, key, Value::List(ArrayValue::new(alloc, inner)?))?;
+        add(
+            &mut self.map,
+            key,
+            Value::List(ArrayValue::new(alloc, inner)?),
+        )?;
         Ok(true)
     }
 

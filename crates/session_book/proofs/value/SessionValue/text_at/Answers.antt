@@ -26,7 +26,7 @@ loop-mark-preserved c =
     let ms = c.as_slice-mark-items.result.now in
     record {
       found = seeks-front c.args.key.now ms (spec.text_at c.args.key.now c.args.self.now) c.loop-mark.depth c.loop-mark.mark-index c.mark-item.result c.loop-mark.invariant c.loop-mark-test.true c.mark-item.is
-        ∙ c.in-Goes.ensures.value (with_marks (drop (c.loop-mark.mark-index + 1) ms) (no_pairs ∷ []));
+          ∙ c.in-Goes.ensures.value (with_marks (drop (c.loop-mark.mark-index + 1) ms) (no_pairs ∷ []));
       within = omega (arith, c.in-Goes.ensures.within, c.loop-mark.invariant.within);
     }
 
