@@ -1,3 +1,5 @@
 pub mod Judging
 pub mod Forms
 pub mod Sound
+pub mod Walks
+pub mod Parsed

@@ -37,7 +37,8 @@ fn parsed(alloc: Global, bytes: &[u8]) -> Result<Table, RolesFault>
 
 #[tactic(auto, unfolding(crate::specs::Files::well_formed))]
 fn well_formed(alloc: Global, table: Table) -> Result<Table, RolesFault>
-    ensures { Gives (λ table. table_view table) (spec.well_formed (table_view table)) result }
+    ensures value { Gives (λ table. table_view table) (spec.well_formed (table_view table)) result }
+    ensures formed { IfOk result (λ table. bad_key (table_view table) ≡ None) }
 {
     if let Some(key) = bad_key(&table) {
         return Err(RolesFault::BadForm(String::from_str(alloc, key)?));

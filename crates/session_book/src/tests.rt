@@ -82,7 +82,7 @@ fn is_held(slot: &SlotValue, draw: u128, last: u64, born: u32) -> bool {
 
 /// A value at the limit of what is kept, or above it.
 fn sized(alloc: Global, size: usize) -> Result<SessionState, Fail> {
-    let array = with_text(alloc, size - 16)?;
+    let array = with_text(alloc, size.saturating_sub(16))?;
     Ok(SessionState::Set(from_array(alloc, &array)?))
 }
 

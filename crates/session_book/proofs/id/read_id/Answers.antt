@@ -1,4 +1,4 @@
-use Rattle.std.proofs.Common.{◌∙◌, ap, sym, false, true, Some, ◌≡◌, rules}
+use Rattle.std.proofs.Common.{◌∙◌, ap, sym, false, true, Some, ◌≡◌}
 use Rattle.session_book.specs.Ids.{is_id_text, number}
 use Rattle.session_book.proofs.Digits.{id-back, id-form, slot-back, draw-back}
 use Rattle.session_book.proofs.id.read_id.Goals as goal

@@ -1,10 +1,10 @@
-use Rattle.std.proofs.Common.{◌∙◌, ◌+◌, ◌≡◌, ap, sym, subst, drop, reverse, [], ◌∷◌, IsTrue, Ok}
+use Rattle.std.proofs.Common.{◌∙◌, ◌+◌, ap, sym, subst, drop, reverse, [], ◌∷◌, IsTrue, Ok}
 use Rattle.std.proofs.lemmas.List.{drop_all}
 use Rattle.order_map.specs.Arrays.{pairs_of, next_of}
-use Rattle.php_values.specs.Data.{no_pairs, data_pairs, array_of}
+use Rattle.php_values.specs.Data.{no_pairs, data_pairs}
 use Rattle.session_book.specs.declared.mark.Mark.TheVariants.{Close}
 use Rattle.session_book.specs.Kept.{is_sound_array}
-use Rattle.session_book.specs.Marks.{told, content, with_mark, with_marks}
+use Rattle.session_book.specs.Marks.{told, content, with_marks}
 use Rattle.session_book.specs.Steps.{whole_of, completed, IsTaken}
 use Rattle.session_book.proofs.Lists.{drop-item}
 use Rattle.session_book.proofs.Making.{nothing-more}

@@ -1,4 +1,4 @@
-use Rattle.std.proofs.Common.{◌∙◌, ap, sym, arith, ◌≡◌}
+use Rattle.std.proofs.Common.{◌∙◌, ap, sym, arith}
 use Rattle.session_book.specs.Marks.{key_data, scalar_data, with_mark}
 use Rattle.session_book.specs.Steps.{sought}
 use Rattle.session_book.proofs.Seeking.{past-pair, past-list}

@@ -1,6 +1,5 @@
-use Rattle.std.proofs.Common.{◌∙◌, ap, sym, subst, [], ◌∷◌}
-use Rattle.order_map.specs.Arrays.{pairs_of, next_of}
-use Rattle.php_values.specs.Data.{array, of_pairs, data_pairs, array_of}
+use Rattle.std.proofs.Common.{ap, sym, subst, [], ◌∷◌}
+use Rattle.php_values.specs.Data.{array, data_pairs, array_of}
 use Rattle.session_book.specs.declared.mark.Mark.TheVariants.{Open}
 use Rattle.session_book.specs.Kept.{kept_pairs, kept_array}
 use Rattle.session_book.specs.Marks.{key_data, with_list}

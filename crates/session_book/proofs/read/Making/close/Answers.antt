@@ -1,4 +1,4 @@
-use Rattle.std.proofs.Common.{◌∙◌, ap, sym, subst, arith}
+use Rattle.std.proofs.Common.{◌∙◌, ap, sym, arith}
 use Rattle.order_map.specs.Arrays.{pairs_of, next_of, look}
 use Rattle.order_map.specs.Keys.{next_after}
 use Rattle.php_values.specs.declared.value.Value.TheVariants as kind

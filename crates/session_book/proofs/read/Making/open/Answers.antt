@@ -1,5 +1,5 @@
 use Rattle.session_book.proofs.Making.{list-opened}
-use Rattle.std.proofs.Common.{◌∙◌, ap, sym}
+use Rattle.std.proofs.Common.{◌∙◌, ap}
 use Rattle.order_map.specs.Arrays.{pairs_of, next_of}
 use Rattle.php_values.specs.Data.{data_pairs}
 use Rattle.session_book.proofs.read.Making.open.Goals as goal
