@@ -11,7 +11,7 @@ use Rattle.role_routing.specs.Names.{RolesData, again, are_names, are_roles, is_
 use Rattle.role_routing.specs.Forms.{bad_key}
 use Rattle.role_routing.specs.Files.{Judged, ◌>>=◌, text_of, list_of, table_of, unless_again, role_names, number_from, known, number_of, users_of, keep_of}
 use Rattle.role_routing.proofs.Judging.{bind-ok}
-use Rattle.role_routing.proofs.Forms.{AreRoleTexts, roles-formed}
+use Rattle.role_routing.proofs.Formed.{AreRoleTexts, roles-formed}
 
 -- ---- one number
 
