@@ -8,6 +8,8 @@ use Rattle.std.specs.List.{list_all}
 use Rattle.std.specs.Ordering.{match_ordering}
 use Rattle.less_terms.specs.Forms.{is_role}
 use Rattle.toml.specs.Data.{Data, string, integer, float, boolean, datetime, array, table, Items, no_items, item, Members, no_members, member, get_member}
+use Rattle.toml.specs.declared.value.Value.{Value}
+use Rattle.toml.specs.View.{items_view}
 use Rattle.role_routing.specs.Forms.{is_role_value, all_items, count_items, is_role_count, is_role_list, is_well_formed, bad_member, or_roles, bad_key}
 use Rattle.role_routing.specs.Files.{text_of, texts_of, list_of}
 
@@ -81,3 +83,7 @@ pub roles-formed : (ms : Members) → bad_key ms ≡ None → AreRoleTexts (list
 roles-formed ms h =
     let r = roles_step (get_member (codes "roles") ms) (bad_member ms) h in
     subst (λ o. AreRoleTexts (list_of o)) (sym r.1) (list-roles r.0 (roles-form r.0 (formed-at (codes "roles") ms r.0 r.2 r.1)))
+
+pub count_view : (vs : List Value) → count_items (items_view vs) ≡ length vs
+count_view [] = refl
+count_view (v ∷ vs) = ap suc (count_view vs)

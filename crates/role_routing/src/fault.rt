@@ -1,6 +1,7 @@
 // Why roles are refused.
 
 ghost use Rattle.std.specs.Prelude.{◌≡◌};
+ghost use Rattle.role_routing.specs.declared.fault.RolesFault.TheVariants.{Memory};
 
 use std::alloc::{AllocError, AllocFailed};
 

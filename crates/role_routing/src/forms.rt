@@ -2,6 +2,7 @@
 
 ghost use Rattle.std.specs.Prelude.{◌≡◌, ◌≤◌, length, option_map};
 ghost use Rattle.std.specs.List.{position_or_len};
+ghost use Rattle.toml.specs.Data.{get_member};
 ghost use Rattle.toml.specs.View.{view, array_view, table_view};
 ghost use Rattle.role_routing.specs.Forms as spec;
 
@@ -77,6 +78,7 @@ fn are_keep_values(items: &Array) -> bool
     true
 }
 
+#[tactic(auto, using(crate::proofs::Formed::count_view))]
 fn has_role_count(items: &Array) -> bool
     ensures { result ≡ spec.is_role_count (spec.count_items (array_view items.now)) }
 {
@@ -167,16 +169,31 @@ fn bad_member(table: &Table) -> Option<&str>
     None
 }
 
+// `roles`, or a bad key that stands before it in byte order.
+fn before_roles(bad: Option<&str>) -> &str
+    ensures { result.now ≡ spec.before_roles (option_map (λ key. key.now) bad) }
+{
+    let Some(key) = bad else {
+        return "roles";
+    };
+    if key < "roles" { key } else { "roles" }
+}
+
+/// The value at a key.
+#[tactic(auto, using(toml::proofs::Views::table_get))]
+pub(crate) fn value_at<'a>(table: &'a Table, key: &str) -> Option<&'a Value>
+    ensures { option_map (λ v. view v.now) result ≡ get_member key.now (table_view table.now) }
+{
+    table.get(key)
+}
+
 /// The first key in byte order that is unknown or whose value is of another form; that `roles` is absent counts as such.
 pub(crate) fn bad_key(table: &Table) -> Option<&str>
     ensures { option_map (λ key. key.now) result ≡ spec.bad_key (table_view table.now) }
 {
     let bad = bad_member(table);
-    if table.get("roles").is_some() {
-        return bad;
-    }
-    match bad {
-        Some(key) if key < "roles" => Some(key),
-        _ => Some("roles"),
+    match value_at(table, "roles") {
+        Some(_) => bad,
+        None => Some(before_roles(bad)),
     }
 }

@@ -3,11 +3,13 @@
 
 mod fault;
 mod forms;
+mod held;
 mod read;
 mod roles;
 #[cfg(test)]
 mod tests;
 
 pub use fault::RolesFault;
+pub use held::role_held;
 pub use read::read_roles;
-pub use roles::{Roles, role_held};
+pub use roles::Roles;

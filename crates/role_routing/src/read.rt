@@ -1,6 +1,6 @@
 // Files of roles.
 
-ghost use Rattle.std.specs.Prelude.{◌≡◌, ◌<◌, ◌+◌, [], None, map, length, IfOk, IfSome, option_map, string_bytes};
+ghost use Rattle.std.specs.Prelude.{◌≡◌, ◌<◌, ◌+◌, [], None, Some, map, length, IfOk, IfSome, option_map, string_bytes};
 ghost use Rattle.toml.specs.View.{view, array_view, table_view};
 ghost use Rattle.std.specs.List.{list_any};
 ghost use Rattle.std.specs.Str.{bytes_eq};
@@ -11,7 +11,7 @@ ghost use Rattle.role_routing.specs.Held.{roles_data};
 ghost use Rattle.role_routing.specs.Outcomes.{Gives, texts_shown};
 
 use crate::fault::RolesFault;
-use crate::forms::bad_key;
+use crate::forms::{bad_key, value_at};
 use crate::roles::Roles;
 use std::alloc::{AllocError, Global};
 use toml::value::Array;
@@ -82,7 +82,7 @@ fn list_of(alloc: Global, value: Option<&Value>) -> Result<Vec<String>, AllocErr
 fn guest_name(table: &Table) -> Option<&str>
     ensures { option_map (λ name. name.now) result ≡ spec.guest_text (table_view table.now) }
 {
-    match table.get("guest") {
+    match value_at(table, "guest") {
         Some(value) => Some(text_of(value)),
         None => None,
     }
@@ -112,7 +112,7 @@ fn again(names: &[String]) -> Option<&String>
 fn role_names(alloc: Global, table: &Table) -> Result<Vec<String>, RolesFault>
     ensures { Gives texts_shown (spec.role_names (table_view table.now)) result }
 {
-    let names = list_of(alloc, table.get("roles"))?;
+    let names = list_of(alloc, value_at(table, "roles"))?;
     if let Some(name) = again(names.as_slice()) {
         return Err(RolesFault::Twice(name.clone()?));
     }
@@ -205,8 +205,8 @@ fn roles_in(alloc: Global, table: &Table) -> Result<Roles, RolesFault>
     };
     let names = role_names(alloc, table)?;
     let guest = number_of(alloc, names.as_slice(), guest)?;
-    let users = users_of(alloc, names.as_slice(), table.get("users"))?;
-    let keep = keep_of(alloc, names.as_slice(), table.get("keep"))?;
+    let users = users_of(alloc, names.as_slice(), value_at(table, "users"))?;
+    let keep = keep_of(alloc, names.as_slice(), value_at(table, "keep"))?;
     Ok(Roles {
         names,
         guest,

@@ -85,16 +85,43 @@ fn refusals_in_their_order(rt: HostRuntime) -> Result<(), Fail> {
         ("guest = \"a\"\nroles = [\"a\", 1]", "badform roles"),
         ("guest = \"a\"\nroles = [\"a\"]\nusers = 1", "badform users"),
         ("roles = [\"a\", \"a\"]\n[users]\nu = 1", "badform users"),
-        ("guest = \"a\"\nroles = [\"a\"]\n[keep]\na = \"x\"", "badform keep"),
-        ("guest = \"a\"\nroles = [\"a\"]\n[keep]\na = [\"/x\"]", "badform keep"),
-        ("guest = \"a\"\nroles = [\"a\"]\n[keep]\na = [\"x#F\"]", "badform keep"),
-        ("guest = \"a\"\nroles = [\"a\"]\n[keep]\nA = []", "badform keep"),
+        (
+            "guest = \"a\"\nroles = [\"a\"]\n[keep]\na = \"x\"",
+            "badform keep",
+        ),
+        (
+            "guest = \"a\"\nroles = [\"a\"]\n[keep]\na = [\"/x\"]",
+            "badform keep",
+        ),
+        (
+            "guest = \"a\"\nroles = [\"a\"]\n[keep]\na = [\"x#F\"]",
+            "badform keep",
+        ),
+        (
+            "guest = \"a\"\nroles = [\"a\"]\n[keep]\nA = []",
+            "badform keep",
+        ),
         ("roles = [\"a\", \"a\"]", "noguest"),
-        ("guest = \"b\"\nroles = [\"a\", \"c\", \"c\", \"a\"]", "twice c"),
-        ("roles = [\"guest\", \"guest\"]\nguest = \"guest\"", "twice guest"),
-        ("guest = \"b\"\nroles = [\"a\"]\nusers = { u = \"c\" }", "unknownrole b"),
-        ("guest = \"a\"\nroles = [\"a\"]\n[users]\nz = \"c\"\nb = \"d\"\n[keep]\ne = []", "unknownrole d"),
-        ("guest = \"a\"\nroles = [\"a\"]\n[keep]\nf = []\ne = []", "unknownrole e"),
+        (
+            "guest = \"b\"\nroles = [\"a\", \"c\", \"c\", \"a\"]",
+            "twice c",
+        ),
+        (
+            "roles = [\"guest\", \"guest\"]\nguest = \"guest\"",
+            "twice guest",
+        ),
+        (
+            "guest = \"b\"\nroles = [\"a\"]\nusers = { u = \"c\" }",
+            "unknownrole b",
+        ),
+        (
+            "guest = \"a\"\nroles = [\"a\"]\n[users]\nz = \"c\"\nb = \"d\"\n[keep]\ne = []",
+            "unknownrole d",
+        ),
+        (
+            "guest = \"a\"\nroles = [\"a\"]\n[keep]\nf = []\ne = []",
+            "unknownrole e",
+        ),
         ("guest = \"a\"\nroles = [\"a\"]", "ok"),
     ];
     for (text, expected) in cases {
@@ -119,7 +146,12 @@ fn counts_lengths_and_bytes(rt: HostRuntime) -> Result<(), Fail> {
     assert!(rt; told(alloc, text.as_str())?.as_str() == "ok");
     let text = format!(in alloc; "guest = \"{long}6\"\nroles = [\"{long}\"]")?;
     assert!(rt; told(alloc, text.as_str())?.as_str() == "badform guest");
-    assert!(rt; matches!(read_roles(alloc, b"roles = [\"\xff\"]"), Err(RolesFault::BadToml)));
+    assert!(rt;
+        matches!(
+            read_roles(alloc, b"roles = [\"\xff\"]"),
+            Err(RolesFault::BadToml)
+        )
+    );
     Ok(())
 }
 
