@@ -1,5 +1,6 @@
 -- Numbers of roles that were read are numbers of roles.
-use Rattle.std.proofs.Common.{◌≡◌, ℕ, zero, suc, ◌+◌, ◌<◌, ◌≤◌, Bool, true, false, ◌&&◌, List, [], ◌∷◌, ◌++◌, length, codes, Option, Some, None, is_none, IsTrue, if◌then◌else◌, refl, sym, ap, subst, ◌∙◌, arith, rules, nat_le}
+use Rattle.std.proofs.Common.{◌≡◌, ℕ, zero, suc, ◌+◌, ◌<◌, ◌≤◌, Bool, true, false, ◌&&◌, List, [], ◌∷◌, ◌++◌, length, codes, Option, Some, None, is_none, IsTrue, if◌then◌else◌, map, String, Global, string_bytes, refl, sym, ap, subst, ◌∙◌, arith, rules, nat_le}
+use Rattle.std.proofs.lemmas.List.{length-map}
 use Rattle.std.proofs.lemmas.Bool.Decides.{nat_tests}
 use Rattle.std.specs.List.{list_all}
 use Rattle.std.specs.Str.{bytes_eq}
@@ -76,3 +77,9 @@ few-names names h = grind (arith, nat_tests)
 pub roles-sound : (names : List (List ℕ)) (guest : ℕ) (us : List (List ℕ × ℕ)) (ks : List (ℕ × List (List ℕ))) → IsTrue (are_names names) → IsTrue (is_number (length names) guest)
     → IsTrue (list_all (λ u. is_number (length names) u.1) us) → IsTrue (list_all (λ k. is_number (length names) k.0) ks) → IsTrue (are_roles (record { names = names; guest = guest; users = us; keep = ks }))
 roles-sound names guest us ks a b c d = and_both _ _ (and_both _ _ a b) (and_both _ _ c d)
+
+pub few-slice : (ms : Members) (xs ys : List (String Global)) → bad_key ms ≡ None → role_names ms ≡ Ok (map string_bytes xs) → ys ≡ xs → length ys < 256
+few-slice ms xs ys h e same =
+    let few = few-names (map string_bytes xs) (names-sound ms (map string_bytes xs) h e) in
+    let l = length-map xs (string_bytes {Z = Global}) in
+    rw same (omega arith)

@@ -5,6 +5,7 @@ use Rattle.std.specs.List.{list_any}
 use Rattle.std.specs.Str.{bytes_eq}
 use Rattle.std.specs.declared.result.Result.TheVariants.{Ok, Err}
 use Rattle.toml.specs.Data.{Data, Items, no_items, item, Members, no_members, member}
+use Rattle.role_routing.specs.Names as named
 use Rattle.role_routing.specs.Names.{again, user_of}
 use Rattle.role_routing.specs.Held.{role_of}
 use Rattle.role_routing.specs.Files.{FileFault, Judged, ◌>>=◌, text_of, texts_of, list_of, number_from, number_of, users_of, keep_of}
@@ -112,3 +113,7 @@ role_step false r rest e = refl
 
 pub role-next : (user : List ℕ) (us : List (List ℕ × ℕ)) (u : List ℕ × ℕ) → bytes_eq u.0 user ≡ false → role_of user (u ∷ us) ≡ role_of user us
 role-next user us u e = role_step (bytes_eq u.0 user) u.1 (role_of user us) e
+
+pub keep-push : (ks : List (ℕ × Vec (String Global) Global)) (k : ℕ × Vec (String Global) Global) → map named.keep_of (ks ++ k ∷ []) ≡ map named.keep_of ks ++ named.keep_of k ∷ []
+keep-push [] k = refl
+keep-push (j ∷ ks) k = ap (λ l. named.keep_of j ∷ l) (keep-push ks k)

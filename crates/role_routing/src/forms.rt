@@ -171,7 +171,7 @@ fn bad_member(table: &Table) -> Option<&str>
 
 // `roles`, or a bad key that stands before it in byte order.
 fn before_roles(bad: Option<&str>) -> &str
-    ensures { result.now ≡ spec.before_roles (option_map (λ key. key.now) bad) }
+    ensures { result.now ≡ spec.before_roles (option_map (λ key. key.now) bad.entry) }
 {
     let Some(key) = bad else {
         return "roles";

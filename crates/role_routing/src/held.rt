@@ -36,7 +36,7 @@ impl Roles {
 
     // The role of a session's user, or the guest's.
     fn of_user(&self, user: Option<&[u8]>) -> u8
-        ensures { result ≡ spec.user_role (roles_data self.now) (option_map (λ t. t.now) user) }
+        ensures { result ≡ spec.user_role (roles_data self.now) (option_map (λ t. t.now) user.entry) }
     {
         let Some(user) = user else {
             return self.guest;
@@ -53,7 +53,7 @@ impl Roles {
 /// The role that a session holds, by its number: that of the guest without a live session; else the pin, where it is a
 /// role's number and was set since the session began; else that of the session's user. It takes no memory.
 pub fn role_held(roles: &Roles, pin: u8, change: u32, session: Option<&Session>) -> u8
-    ensures value { result ≡ spec.role_held (roles_data roles.now) pin change (option_map (λ s. s.now) session) }
+    ensures value { result ≡ spec.role_held (roles_data roles.now) pin change (option_map (λ s. s.now) session.entry) }
     ensures role { IsTrue (is_number (length (roles_data roles.now).names) result) }
 {
     let Some(session) = session else {

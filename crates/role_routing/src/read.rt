@@ -64,7 +64,7 @@ fn texts(alloc: Global, items: &Array) -> Result<Vec<String>, AllocError>
 }
 
 fn list_of(alloc: Global, value: Option<&Value>) -> Result<Vec<String>, AllocError>
-    ensures { IfOk result (λ texts. map string_bytes texts.items ≡ spec.list_of (option_map (λ v. view v.now) value)) }
+    ensures { IfOk result (λ texts. map string_bytes texts.items ≡ spec.list_of (option_map (λ v. view v.now) value.entry)) }
 {
     let Some(value) = value else {
         return Ok(Vec::new(alloc));
@@ -92,7 +92,12 @@ fn guest_name(table: &Table) -> Option<&str>
 fn has_name(names: &[String], name: &[u8]) -> bool
     ensures { result ≡ list_any (bytes_eq name.now) (map string_bytes names.now) }
 {
-    names.iter().any(|own| name == own.as_bytes())
+    for own in names {
+        if name == own.as_bytes() {
+            return true;
+        }
+    }
+    false
 }
 
 // The first name that stands again.
@@ -146,7 +151,7 @@ fn number_of(alloc: Global, names: &[String], name: &str) -> Result<u8, RolesFau
 
 // The table that a value is.
 fn table_in(value: Option<&Value>) -> Option<&Table>
-    ensures { option_map (λ t. table_view t.now) result ≡ spec.table_in (option_map (λ v. view v.now) value) }
+    ensures { option_map (λ t. table_view t.now) result ≡ spec.table_in (option_map (λ v. view v.now) value.entry) }
 {
     match value {
         Some(value) => value.as_table(),
@@ -160,7 +165,7 @@ fn users_of(
     value: Option<&Value>,
 ) -> Result<Vec<(String, u8)>, RolesFault>
     requires { length names.now < 256 }
-    ensures { Gives (λ users. map named.user_of users.items) (spec.users_of (map string_bytes names.now) (spec.table_of (option_map (λ v. view v.now) value))) result }
+    ensures { Gives (λ users. map named.user_of users.items) (spec.users_of (map string_bytes names.now) (spec.table_of (option_map (λ v. view v.now) value.entry))) result }
 {
     let mut users = Vec::new(alloc);
     let Some(table) = table_in(value) else {
@@ -180,7 +185,7 @@ fn keep_of(
     value: Option<&Value>,
 ) -> Result<Vec<(u8, Vec<String>)>, RolesFault>
     requires { length names.now < 256 }
-    ensures { Gives (λ lists. map named.keep_of lists.items) (spec.keep_of (map string_bytes names.now) (spec.table_of (option_map (λ v. view v.now) value))) result }
+    ensures { Gives (λ lists. map named.keep_of lists.items) (spec.keep_of (map string_bytes names.now) (spec.table_of (option_map (λ v. view v.now) value.entry))) result }
 {
     let mut lists = Vec::new(alloc);
     let Some(table) = table_in(value) else {

@@ -8,4 +8,4 @@ use Rattle.role_routing.proofs.read.keep_of.Given as goal
 abbrev pub invariant-lists : goal.invariant-lists
 invariant-lists l =
     (keep_of (map string_bytes l.names) (members_view l.role-iterator) >>= (λ ks. Ok (map named.keep_of l.lists.items ++ ks)))
-    ≡ keep_of (map string_bytes l.names) (members_view l.table.entries)
+    ≡ keep_of (map string_bytes l.names) (members_view l.initial.role-iterator)

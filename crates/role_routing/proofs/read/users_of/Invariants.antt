@@ -8,4 +8,4 @@ use Rattle.role_routing.proofs.read.users_of.Given as goal
 abbrev pub invariant-users : goal.invariant-users
 invariant-users l =
     (users_of (map string_bytes l.names) (members_view l.user-iterator) >>= (λ us. Ok (map user_of l.users.items ++ us)))
-    ≡ users_of (map string_bytes l.names) (members_view l.table.entries)
+    ≡ users_of (map string_bytes l.names) (members_view l.initial.user-iterator)
