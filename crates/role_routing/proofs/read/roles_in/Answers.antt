@@ -22,9 +22,9 @@ invariant_of-result c =
     let ks = map named.keep_of c.in_ok-keep.keep.items in
     let a = names-sound (table_view c.args.table.now) (map string_bytes xs) c.requires c.in_ok-names.ensures in
     let g = subst (λ ns. IsTrue (named.is_number (length (map string_bytes ns)) c.in_ok-guest.guest)) c.as_slice.ensures.value
-      (number-sound (map string_bytes c.as_slice.result.now) c.in-Some.guest.now c.in_ok-guest.guest c.in_ok-guest.ensures) in
+    (number-sound (map string_bytes c.as_slice.result.now) c.in-Some.guest.now c.in_ok-guest.guest c.in_ok-guest.ensures) in
     let u = subst (λ ns. IsTrue (list_all (λ u. named.is_number (length (map string_bytes ns)) u.1) us)) c.as_slice-2.ensures.value
-      (users-sound (map string_bytes c.as_slice-2.result.now) (table_of (option_map (λ v. view v.now) c.value_at.result)) us c.in_ok-users.ensures) in
+    (users-sound (map string_bytes c.as_slice-2.result.now) (table_of (option_map (λ v. view v.now) c.value_at.result)) us c.in_ok-users.ensures) in
     let k = subst (λ ns. IsTrue (list_all (λ k. named.is_number (length (map string_bytes ns)) k.0) ks)) c.as_slice-3.ensures.value
-      (keep-sound (map string_bytes c.as_slice-3.result.now) (table_of (option_map (λ v. view v.now) c.value_at-2.result)) ks c.in_ok-keep.ensures) in
+    (keep-sound (map string_bytes c.as_slice-3.result.now) (table_of (option_map (λ v. view v.now) c.value_at-2.result)) ks c.in_ok-keep.ensures) in
     record { sound = roles-sound (map string_bytes xs) c.in_ok-guest.guest us ks a g u k }
