@@ -1,5 +1,5 @@
 -- The role held is a role's number.
-use Rattle.std.proofs.Common.{◌≡◌, ℕ, Bool, true, false, ◌&&◌, List, [], ◌∷◌, length, codes, Option, Some, None, IsTrue, if◌then◌else◌, unwrap_or, refl, sym, ap, subst, ◌∙◌, nat_lt}
+use Rattle.std.proofs.Common.{◌≡◌, ℕ, Bool, true, false, ◌&&◌, List, [], ◌∷◌, length, codes, Option, Some, None, IsTrue, if◌then◌else◌, unwrap_or, refl, sym, nat_lt}
 use Rattle.std.specs.List.{list_all}
 use Rattle.std.specs.Str.{bytes_eq}
 use Rattle.order_map.proofs.Keys.{and_left, and_right}

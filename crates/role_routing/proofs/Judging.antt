@@ -1,8 +1,7 @@
 -- Steps that may be refused.
-use Rattle.std.proofs.Common.{◌≡◌, List, [], ◌∷◌, ◌++◌, refl, sym, ap, ◌∙◌, append_assoc}
-use Rattle.std.specs.declared.result.Result.{Result}
+use Rattle.std.proofs.Common.{◌≡◌, List, [], ◌∷◌, ◌++◌, refl, sym, ap, append_assoc}
 use Rattle.std.specs.declared.result.Result.TheVariants.{Ok, Err}
-use Rattle.role_routing.specs.Files.{FileFault, Judged, ◌>>=◌}
+use Rattle.role_routing.specs.Files.{Judged, ◌>>=◌}
 
 -- what an `Ok` behind two steps shows of each
 pub bind-ok : {A B : Type 0} (r : Judged A) (f : A → Judged B) (y : B) → (r >>= f) ≡ Ok y → (x : A) × (r ≡ Ok x) × (f x ≡ Ok y)

@@ -1,11 +1,11 @@
 -- Texts that are parsed.
-use Rattle.std.proofs.Common.{◌≡◌, ℕ, Bool, true, false, List, Option, Some, None, if◌then◌else◌, refl, sym, ap, ◌∙◌}
+use Rattle.std.proofs.Common.{◌≡◌, ℕ, Bool, true, false, List, Option, Some, None, if◌then◌else◌, refl, ap, ◌∙◌}
 use Rattle.std.proofs.lemmas.Str.{IsUtf8-from_is_utf8, is_utf8-from_IsUtf8}
 use Rattle.std.specs.Str.{IsUtf8, is_utf8}
 use Rattle.std.specs.declared.result.Result.TheVariants.{Ok, Err}
 use Rattle.toml.specs.Data.{Members}
 use Rattle.toml.specs.Parse.{parse_document}
-use Rattle.role_routing.specs.Files.{Judged, parsed, parsed_or, bad_toml}
+use Rattle.role_routing.specs.Files.{parsed, parsed_or, bad_toml}
 
 pub parsed-ok : (text : List ℕ) (ms : Members) → IsUtf8 text → parse_document text ≡ Some ms → parsed text ≡ Ok ms
 unfolding parsed

@@ -1,18 +1,17 @@
 -- Numbers of roles that were read are numbers of roles.
-use Rattle.std.proofs.Common.{◌≡◌, ℕ, zero, suc, ◌+◌, ◌<◌, ◌≤◌, Bool, true, false, ◌&&◌, List, [], ◌∷◌, ◌++◌, length, codes, Option, Some, None, is_none, IsTrue, if◌then◌else◌, map, String, Global, string_bytes, refl, sym, ap, subst, ◌∙◌, arith, rules, nat_le}
+use Rattle.std.proofs.Common.{◌≡◌, ℕ, suc, ◌+◌, ◌<◌, ◌≤◌, Bool, true, false, List, [], ◌∷◌, length, codes, Option, Some, None, is_none, IsTrue, if◌then◌else◌, map, String, Global, string_bytes, refl, ap, subst, arith}
 use Rattle.std.proofs.lemmas.List.{length-map}
 use Rattle.std.proofs.lemmas.Bool.Decides.{nat_tests}
 use Rattle.std.specs.List.{list_all}
 use Rattle.std.specs.Str.{bytes_eq}
-use Rattle.std.specs.declared.result.Result.TheVariants.{Ok, Err}
+use Rattle.std.specs.declared.result.Result.TheVariants.{Ok}
 use Rattle.order_map.proofs.Keys.{and_both}
-use Rattle.less_terms.specs.Forms.{is_role}
-use Rattle.toml.specs.Data.{Data, Members, no_members, member, get_member}
-use Rattle.role_routing.specs.Names.{RolesData, again, are_names, are_roles, is_number}
+use Rattle.toml.specs.Data.{Members, no_members, member, get_member}
+use Rattle.role_routing.specs.Names.{again, are_names, are_roles, is_number}
 use Rattle.role_routing.specs.Forms.{bad_key}
-use Rattle.role_routing.specs.Files.{Judged, ◌>>=◌, text_of, list_of, table_of, unless_again, role_names, number_from, known, number_of, users_of, keep_of}
+use Rattle.role_routing.specs.Files.{◌>>=◌, text_of, list_of, unless_again, role_names, number_from, known, number_of, users_of, keep_of}
 use Rattle.role_routing.proofs.Judging.{bind-ok}
-use Rattle.role_routing.proofs.Formed.{AreRoleTexts, roles-formed}
+use Rattle.role_routing.proofs.Formed.{roles-formed}
 
 -- ---- one number
 

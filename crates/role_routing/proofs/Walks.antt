@@ -1,14 +1,14 @@
 -- Walks over names, texts, users and keep lists.
-use Rattle.std.proofs.Common.{◌≡◌, ℕ, zero, suc, ◌+◌, ◌<◌, ◌≤◌, Bool, true, false, List, [], ◌∷◌, ◌++◌, map, length, take, drop, get_or, Option, Some, None, if◌then◌else◌, String, Vec, Global, string_bytes, refl, sym, ap, subst, ◌∙◌, append_assoc, append-nil, arith, rules}
+use Rattle.std.proofs.Common.{◌≡◌, ℕ, ◌+◌, ◌<◌, ◌≤◌, Bool, true, false, List, [], ◌∷◌, ◌++◌, map, length, take, drop, get_or, Option, Some, None, if◌then◌else◌, String, Vec, Global, string_bytes, refl, sym, ap, ◌∙◌}
 use Rattle.std.proofs.lemmas.List.{drop_all, drop_more, take_more}
 use Rattle.std.specs.List.{list_any}
 use Rattle.std.specs.Str.{bytes_eq}
 use Rattle.std.specs.declared.result.Result.TheVariants.{Ok, Err}
-use Rattle.toml.specs.Data.{Data, Items, no_items, item, Members, no_members, member}
+use Rattle.toml.specs.Data.{Data, Items, item, Members, member}
 use Rattle.role_routing.specs.Names as named
 use Rattle.role_routing.specs.Names.{again, user_of}
 use Rattle.role_routing.specs.Held.{role_of}
-use Rattle.role_routing.specs.Files.{FileFault, Judged, ◌>>=◌, text_of, texts_of, list_of, number_from, number_of, users_of, keep_of}
+use Rattle.role_routing.specs.Files.{FileFault, ◌>>=◌, text_of, texts_of, list_of, number_from, number_of, users_of, keep_of}
 use Rattle.role_routing.proofs.Judging.{bind-more}
 
 -- ---- texts

@@ -1,8 +1,8 @@
-use Rattle.std.proofs.Common.{◌≡◌, ◌∙◌, map, length, string_bytes, IsTrue, option_map, ap, sym, subst}
+use Rattle.std.proofs.Common.{map, length, string_bytes, IsTrue, option_map, subst}
 use Rattle.std.specs.List.{list_all}
 use Rattle.toml.specs.View.{view, table_view}
 use Rattle.role_routing.specs.Names as named
-use Rattle.role_routing.specs.Files.{number_of, table_of}
+use Rattle.role_routing.specs.Files.{table_of}
 use Rattle.role_routing.proofs.Sound.{number-sound, users-sound, keep-sound, names-sound, few-slice, roles-sound}
 use Rattle.role_routing.proofs.read.roles_in.Goals as goal
 
