@@ -247,3 +247,21 @@ fn cookies_are_told_of_new_sessions(rt: HostRuntime) -> Result<(), Fail> {
     assert!(rt; run_id(3, &live, 1541, 9) == new);
     Ok(())
 }
+
+#[test]
+fn one_session_and_the_next(rt: HostRuntime) -> Result<(), Fail> {
+    let alloc = rt.alloc();
+    // at 0 a new session, at 1440 the same, at 2881 another one
+    let requests = [(0, 1, 1, true), (1440, 0, 1, false), (2881, 2, 2, true)];
+    let mut slot = SlotValue::Free;
+    for (moment, drawn, draw, told) in requests {
+        let state = sized(alloc, 16)?;
+        let id = SessionId { slot: 0, draw };
+        let cookie = cookie_after(0, &slot, &state, moment, drawn);
+        assert!(rt; run_id(0, &slot, moment, drawn) == id);
+        assert!(rt; cookie == if told { Some(id) } else { None });
+        slot = slot_after(slot, state, moment, drawn, 0);
+        assert!(rt; is_held(&slot, draw, moment, 0));
+    }
+    Ok(())
+}
