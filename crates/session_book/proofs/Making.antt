@@ -1,5 +1,5 @@
 -- Lists that are made of marks: keys that are not there yet, and what each step makes of the whole.
-use Rattle.std.proofs.Common.{◌≡◌, ℕ, zero, suc, Bool, true, false, ◌&&◌, List, [], ◌∷◌, ◌++◌, refl, sym, ap, subst, ◌∙◌, drop, reverse, Option, Some, None, IsTrue, ◌≤◌, arith, rules}
+use Rattle.std.proofs.Common.{◌≡◌, ℕ, false, List, [], ◌∷◌, ◌++◌, refl, sym, ap, subst, ◌∙◌, drop, reverse, None, IsTrue, ◌≤◌, arith}
 use Rattle.std.proofs.lemmas.Bool.Decides.{nat_tests}
 use Rattle.std.proofs.lemmas.List.{reverse-append}
 use Rattle.std.proofs.lemmas.Bool.Decides.{same_from_decides}
@@ -9,7 +9,7 @@ use Rattle.order_map.specs.Keys.{same_key, has_key, all_distinct, is_below, all_
 use Rattle.order_map.specs.Arrays.{keys_of, look, pairs_of, next_of}
 use Rattle.order_map.proofs.Keys.{and_left, and_right, or_no, no_or, not_false, same_key-Decides, next_after-below}
 use Rattle.php_values.specs.declared.value.Value.{Value}
-use Rattle.php_values.specs.Data.{Data, array, ArrayData, of_pairs, Pairs, no_pairs, pair, data_pairs, array_of}
+use Rattle.php_values.specs.Data.{Data, array, of_pairs, Pairs, no_pairs, pair, data_pairs, array_of}
 use Rattle.php_values.specs.Arithmetic.{put_last}
 use Rattle.session_book.specs.declared.mark.Mark.{Mark}
 use Rattle.session_book.specs.declared.mark.Mark.TheVariants.{Close}

@@ -1,11 +1,11 @@
 -- Texts that are sought mark by mark.
-use Rattle.std.proofs.Common.{◌≡◌, ℕ, zero, suc, ◌+◌, ◌<◌, ◌≤◌, Bool, false, List, [], ◌∷◌, length, drop, get_or, Option, Some, None, refl, sym, ap, ◌∙◌, arith, rules}
+use Rattle.std.proofs.Common.{◌≡◌, ℕ, zero, suc, ◌+◌, ◌<◌, ◌≤◌, false, List, [], ◌∷◌, length, drop, get_or, Option, None, refl, sym, ap, ◌∙◌, arith}
 use Rattle.std.proofs.Math.Seq.{drop-nil}
 use Rattle.std.proofs.lemmas.List.{drop_all}
 use Rattle.order_map.specs.declared.key.Key.{Key}
 use Rattle.order_map.specs.declared.key.Key.TheVariants.{Text}
 use Rattle.order_map.specs.Keys.{same_key}
-use Rattle.php_values.specs.Data.{Data, array, of_pairs, Pairs, no_pairs, pair}
+use Rattle.php_values.specs.Data.{Data, Pairs, no_pairs}
 use Rattle.php_values.specs.Compare.{value_of}
 use Rattle.session_book.specs.declared.mark.Mark.{Mark}
 use Rattle.session_book.specs.Kept.{text_in}

@@ -1,12 +1,12 @@
 -- Sizes of marks and of what they tell.
-use Rattle.std.proofs.Common.{◌≡◌, ℕ, ◌+◌, ◌-◌, ◌^◌, ◌<◌, ◌≤◌, min, List, [], ◌∷◌, refl, sym, ap, ◌∙◌, drop, arith, rules, get_or, length}
+use Rattle.std.proofs.Common.{◌≡◌, ℕ, ◌+◌, ◌<◌, ◌≤◌, min, List, [], ◌∷◌, refl, sym, ap, ◌∙◌, drop, arith, get_or, length}
 use Rattle.std.proofs.lemmas.List.{drop_all}
 use Rattle.session_book.proofs.Lists.{drop-item}
-use Rattle.php_values.specs.Data.{Data, of_pairs, Pairs, no_pairs, pair}
+use Rattle.php_values.specs.Data.{Pairs, no_pairs}
 use Rattle.session_book.specs.declared.mark.Mark.{Mark}
 use Rattle.session_book.specs.declared.mark.Mark.TheVariants.{Pair, Open, Close}
 use Rattle.session_book.specs.Marks.{innermost, with_mark, with_marks, told, content, IsWritten}
-use Rattle.session_book.specs.Sizes.{key_size, size_of, pairs_size, array_size}
+use Rattle.session_book.specs.Sizes.{pairs_size, array_size}
 use Rattle.session_book.specs.Steps.{mark_size, marks_size}
 
 abbrev levels_size : List Pairs → ℕ

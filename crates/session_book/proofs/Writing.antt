@@ -1,5 +1,5 @@
 -- Marks that are written.
-use Rattle.std.proofs.Common.{◌≡◌, ℕ, Bool, true, false, ◌&&◌, List, [], ◌∷◌, ◌++◌, refl, sym, ap, subst, ◌∙◌, drop, map, reverse, Option, Some, None, IsTrue, ◌≤◌, nat_le, arith, rules}
+use Rattle.std.proofs.Common.{◌≡◌, ℕ, Bool, true, false, ◌&&◌, List, [], ◌∷◌, ◌++◌, refl, sym, ap, subst, ◌∙◌, drop, map, reverse, IsTrue, ◌≤◌, nat_le, arith}
 use Rattle.std.proofs.lemmas.Bool.Decides.{nat_tests}
 use Rattle.std.proofs.lemmas.List.{reverse-append}
 use Rattle.order_map.specs.declared.key.Key.{Key}
@@ -9,13 +9,13 @@ use Rattle.order_map.specs.Arrays.{keys_of, pairs_of, next_of, IsArray}
 use Rattle.order_map.proofs.Keys.{and_both}
 use Rattle.php_values.specs.declared.value.Value.{Value}
 use Rattle.php_values.specs.declared.walk.Walk.{Walk}
-use Rattle.php_values.specs.Data.{Data, array, of_pairs, Pairs, no_pairs, pair, data_pairs, array_of, data_of}
+use Rattle.php_values.specs.Data.{array, of_pairs, Pairs, no_pairs, pair, data_pairs, array_of, data_of}
 use Rattle.php_values.specs.Walks.{rest_of}
 use Rattle.session_book.specs.declared.mark.Mark.{Mark}
-use Rattle.session_book.specs.declared.mark.Mark.TheVariants.{Pair, Open, Close}
-use Rattle.session_book.specs.Kept.{keys_in, is_keyed, is_sound, is_sound_array, are_sound, kept_pairs, kept_array, without_objects}
-use Rattle.session_book.specs.Marks.{innermost, with_mark, with_marks, told, content, IsWritten}
-use Rattle.session_book.specs.Steps.{Adds, Writes, rest_kept, inside_of, all_sound}
+use Rattle.session_book.specs.declared.mark.Mark.TheVariants.{Close}
+use Rattle.session_book.specs.Kept.{keys_in, is_keyed, is_sound_array, are_sound, kept_pairs, kept_array, without_objects}
+use Rattle.session_book.specs.Marks.{innermost, with_mark, with_marks, content, IsWritten}
+use Rattle.session_book.specs.Steps.{Adds, Writes, rest_kept, all_sound}
 
 pub with_marks-push : (ms : List Mark) (m : Mark) (pss : List Pairs) → with_marks (ms ++ m ∷ []) pss ≡ with_marks ms (with_mark m pss)
 with_marks-push [] m pss = refl

@@ -1,5 +1,5 @@
 -- What a session keeps of an array, and which lists it can keep.
-use Rattle.std.specs.Prelude.{List, [], ◌∷◌, ℕ, Bool, true, ◌&&◌, nat_le, IsTrue, Option, Some, None}
+use Rattle.std.specs.Prelude.{List, [], ◌∷◌, ℕ, Bool, true, ◌&&◌, nat_le, Option, Some, None}
 use Rattle.order_map.specs.declared.key.Key.{Key}
 use Rattle.order_map.specs.declared.key.Key.TheVariants.{Text}
 use Rattle.order_map.specs.Keys.{all_distinct, all_below, spent}

@@ -1,5 +1,5 @@
 -- The size of a session's value.
-use Rattle.std.specs.Prelude.{List, [], ◌∷◌, ℕ, ◌+◌, length}
+use Rattle.std.specs.Prelude.{ℕ, ◌+◌, length}
 use Rattle.order_map.specs.declared.key.Key.{Key}
 use Rattle.order_map.specs.declared.key.Key.TheVariants.{Int, Text}
 use Rattle.php_values.specs.Data.{Data, null, truth, int, bytes, array, object, ArrayData, of_pairs, Pairs, no_pairs, pair}
