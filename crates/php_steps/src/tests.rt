@@ -105,7 +105,7 @@ fn shown(alloc: Global, e: &Expr) -> Result<Vec<u8>, Fail> {
     let mut stack = Backward::new(alloc);
     let now = settled(alloc, Now::Evaluate(e), &store, &mut stack)?;
     let mut out = Vec::new(alloc);
-    match now {
+    match &now {
         Now::Give(Value::Null) => out.extend_from_slice(b"null")?,
         Now::Give(Value::Bool(true)) => out.extend_from_slice(b"true")?,
         Now::Give(Value::Bool(false)) => out.extend_from_slice(b"false")?,
