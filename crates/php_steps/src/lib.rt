@@ -11,8 +11,6 @@ mod operate;
 mod outcome;
 mod quote;
 mod resume;
-#[cfg(test)]
-mod tests;
 
 pub use begin::begin_expr;
 pub use frame::{ExprFrame, Frame, Now, PlaceFrame, Printed, Target};
