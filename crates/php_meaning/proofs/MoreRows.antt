@@ -89,6 +89,11 @@ walks_the_old_array : Comes (script (then (sets a (e.array (e.item (text (codes 
     (one (says (at_key a (int 3))))))) 50 (codes "xyy") Done
 walks_the_old_array = (refl, refl)
 
+-- `$a = 'x'; unset($a); echo isset($a) ? 'y' : 'n';`
+unset_variables : Comes (script (then (sets a (text (codes "x"))) (then (s.unset (only (var a)) 1)
+    (one (says (e.choice (e.isset (only (var a)) 1) (e.full (text (codes "y")) (text (codes "n")) e.no_branches) 1)))))) 50 (codes "n") Done
+unset_variables = (refl, refl)
+
 -- `$a = ['8' => 'x', '08' => 'y', true => 'z', null => 'n']; unset($a[8]); $a[] = 'w'; foreach ($a as $k => $v) echo "$k=$v;";`
 keys : Comes (script (then (sets a (e.array (e.pair (text (codes "8")) (text (codes "x")) (e.pair (text (codes "08")) (text (codes "y"))
     (e.pair (e.constant (record { text = codes "true" }) 1) (text (codes "z")) (e.pair (e.constant (record { text = codes "null" }) 1) (text (codes "n")) e.no_items)))) 1))

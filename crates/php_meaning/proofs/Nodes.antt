@@ -16,7 +16,7 @@ use Rattle.php_values.specs.Data.{Data, null, truth, int, bytes, array, object, 
 use Rattle.php_values.specs.Convert.{truth_of}
 use Rattle.php_values.specs.Compare.{loose_equal}
 use Rattle.php_world.specs.Steps.{Step, at, next, member}
-use Rattle.php_world.specs.Variables.{shared_cell, global_named, referred, value_of, bound, static_cell}
+use Rattle.php_world.specs.Variables.{shared_cell, global_named, referred, value_of, bound, static_cell, unset_variable}
 use Rattle.php_world.specs.declared.cell.Cell.{Cell}
 use Rattle.php_world.specs.declared.reading.Reading.{Reading}
 use Rattle.php_world.specs.declared.reading.Reading.TheVariants.{Plain, Quiet}
@@ -278,7 +278,7 @@ module _ (Fine : Entry → Type 0) (files : (path : List ℕ) → Fine (file pat
 
   all-unset : (xs : Expressions Name) → GoodDoes Fine p (t.all_unset xs)
   all-unset e.no_more w k f g = g Normal w f
-  all-unset (e.expression (e.var y l) xs) w k f g = unsets Fine p y [] (t.all_unset xs) (all-unset xs) w k f g
+  all-unset (e.expression (e.var y l) xs) w k f g = all-unset xs (with_vars (unset_variable y w.vars) w) k f g
   all-unset (e.expression (e.post (e.var y i) ys l) xs) w k f g = has_steps ys [] (λ path. st.unset_at y path (t.all_unset xs)) (λ path. unsets Fine p y path (t.all_unset xs) (all-unset xs)) w k f g
   all-unset (e.expression (e.static_property n m l) xs) w k f g = tt {0}
   all-unset (e.expression y xs) w k f g = all-unset xs w k f g

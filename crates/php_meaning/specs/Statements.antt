@@ -16,7 +16,7 @@ use Rattle.php_tree.specs.Statements.{Head, Statement, Statements, Arms, Cases, 
 use Rattle.php_values.specs.Data.{Data, null, truth, int, bytes, array, object, ArrayData, array_pairs, Pairs, no_pairs, pair}
 use Rattle.php_values.specs.Convert.{truth_of}
 use Rattle.php_values.specs.Compare.{loose_equal}
-use Rattle.php_world.specs.Variables.{global_named, static_cell, with_static, bound}
+use Rattle.php_world.specs.Variables.{global_named, static_cell, with_static, bound, unset_variable}
 use Rattle.php_world.specs.declared.cell.Cell.{Cell}
 use Rattle.php_world.specs.declared.reading.Reading.TheVariants.{Plain}
 use Rattle.php_meaning.specs.declared.fatal.FatalName.TheVariants as name
@@ -165,7 +165,7 @@ last_of (e.expression x xs) d go = λ w k. read Plain x w (on_value (λ v. last_
 
 abbrev pub all_unset : Expressions Name → Does
 all_unset e.no_more w k = k Normal w
-all_unset (e.expression (e.var x l) xs) w k = unset_at x [] (all_unset xs) w k
+all_unset (e.expression (e.var x l) xs) w k = all_unset xs (with_vars (unset_variable x w.vars) w) k
 all_unset (e.expression (e.post (e.var x i) ys l) xs) w k = steps ys [] (λ path. unset_at x path (all_unset xs)) w k
 all_unset (e.expression (e.static_property c m l) xs) w k = no_class c w k
 all_unset (e.expression z xs) w k = all_unset xs w k

@@ -25,11 +25,11 @@ use Rattle.php_meaning.specs.Course.{Then, give, on_value}
 use Rattle.php_meaning.specs.Refusals.{throws, plain_error}
 use Rattle.php_meaning.specs.Operators.{as_text, put_out, before_value, compare_right}
 use Rattle.php_meaning.specs.Expressions.{read, links, branches, accessed, reading_of, exit_value, unless_null}
-use Rattle.php_steps.specs.declared.frame.ExprFrame.TheVariants as f
-use Rattle.php_steps.specs.declared.frame.Frame.{Frame}
-use Rattle.php_steps.specs.declared.frame.Frame.TheVariants.{OfExpr}
-use Rattle.php_steps.specs.Named.{named, accesses_named, links_named, branches_named}
-use Rattle.php_steps.specs.Rest.{rest}
+use Rattle.php_rest.specs.declared.expr_frame.ExprFrame.TheVariants as f
+use Rattle.php_rest.specs.declared.frame.Frame.{Frame}
+use Rattle.php_rest.specs.declared.frame.Frame.TheVariants.{OfExpr}
+use Rattle.php_rest.specs.Named.{named, accesses_named, links_named, branches_named}
+use Rattle.php_rest.specs.Rest.{rest}
 use Rattle.php_steps.proofs.Meanings.{read-Empty, read-ExitWith, read-Chain, read-Print, read-Choice, read-Coalesce, read-Compare, read-Unary, read-InstanceOf, read-InstanceOfVar, read-Clone}
 
 -- ---- renaming keeps what is a place

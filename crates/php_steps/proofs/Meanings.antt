@@ -29,7 +29,7 @@ use Rattle.php_meaning.specs.Operators.{as_text, put_out, before_value, compare_
 use Rattle.php_meaning.specs.Constants.{no_elements}
 use Rattle.php_meaning.specs.Expressions.{read, parts, items, links, branches, all_set, exit_value, unless_null}
 use Rattle.php_meaning.specs.declared.fatal.FatalName.TheVariants as name
-use Rattle.php_steps.specs.Named.{named, all_named, parts_named, items_named, links_named, branches_named}
+use Rattle.php_rest.specs.Named.{named, all_named, parts_named, items_named, links_named, branches_named}
 
 pub read-Int : (t : Naming) (how : Reading) (n : ℤ) (l : ℕ) (w : World) (k : Then) → read how (named t (x.Int n l)) w k ≡ give (int n) w k
 read-Int t how n l w k = ap (λ e. read how (renamed t.name e) w k) (seen.expression_of-Int n l)

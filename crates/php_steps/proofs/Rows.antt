@@ -31,11 +31,11 @@ use Rattle.php_meaning.specs.Refusals.{answered, place_refused}
 use Rattle.php_meaning.specs.Operators.{right_of, unless_decided, decided}
 use Rattle.php_meaning.specs.Stores.{indexed, place_read}
 use Rattle.php_meaning.specs.Expressions.{read, parts, items, accessed, links, branches, all_set, key_data, with_text}
-use Rattle.php_steps.specs.declared.frame.ExprFrame.TheVariants as f
-use Rattle.php_steps.specs.declared.frame.Frame.{Frame}
-use Rattle.php_steps.specs.declared.frame.Frame.TheVariants.{OfExpr}
-use Rattle.php_steps.specs.Named.{named, all_named, parts_named, items_named, accesses_named, links_named, branches_named, key_named}
-use Rattle.php_steps.specs.Rest.{rest}
+use Rattle.php_rest.specs.declared.expr_frame.ExprFrame.TheVariants as f
+use Rattle.php_rest.specs.declared.frame.Frame.{Frame}
+use Rattle.php_rest.specs.declared.frame.Frame.TheVariants.{OfExpr}
+use Rattle.php_rest.specs.Named.{named, all_named, parts_named, items_named, accesses_named, links_named, branches_named, key_named}
+use Rattle.php_rest.specs.Rest.{rest}
 
 take-all : {A : Type 0} (xs : List A) → take (length xs) xs ≡ xs
 take-all [] = refl

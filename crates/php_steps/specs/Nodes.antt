@@ -2,8 +2,8 @@
 use Rattle.std.specs.Prelude.{Bool, true, false}
 use Rattle.php_tree.specs.Expressions as e
 use Rattle.php_tree.specs.Expressions.{Expression}
-use Rattle.php_steps.specs.declared.frame.Now.{Now}
-use Rattle.php_steps.specs.declared.frame.Now.TheVariants as now
+use Rattle.php_rest.specs.declared.now.Now.{Now}
+use Rattle.php_rest.specs.declared.now.Now.TheVariants as now
 
 abbrev pub has_steps_of_its_own : {V : Type 0} → Expression V → Bool
 has_steps_of_its_own (e.constant c l) = true

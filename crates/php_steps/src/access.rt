@@ -5,13 +5,12 @@ ghost use Rattle.php_values.specs.Data.{data_of};
 ghost use Rattle.php_world.specs.Steps as steps;
 ghost use Rattle.php_meaning.specs.Stores.{stepped_in};
 ghost use Rattle.php_meaning.specs.Expressions as expressions;
-ghost use Rattle.php_steps.specs.Laws.{Steps};
-ghost use Rattle.php_steps.specs.Named.{accesses_named};
+ghost use Rattle.php_rest.specs.Laws.{Steps};
+ghost use Rattle.php_rest.specs.Named.{accesses_named};
 
-use crate::frame::{ExprFrame, Frame, Now};
-use crate::outcome::place_refused;
 use backward_list::Backward;
 use php_meaning::FatalName;
+use php_rest::{ExprFrame, Frame, Now, place_refused};
 use php_tree::expr::{Access, Expr};
 use php_values::Value;
 use php_world::{Reading, Step, read_value};

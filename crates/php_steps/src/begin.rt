@@ -3,17 +3,17 @@
 ghost use Rattle.std.specs.Prelude.{◌≡◌, IfOk};
 ghost use Rattle.php_tree.specs.ExpressionOf.{expression_of};
 ghost use Rattle.php_meaning.specs.Expressions as expressions;
-ghost use Rattle.php_steps.specs.Laws.{Reads};
-ghost use Rattle.php_steps.specs.Named.{named};
+ghost use Rattle.php_rest.specs.Laws.{Reads};
+ghost use Rattle.php_rest.specs.Named.{named};
 ghost use Rattle.php_steps.specs.Nodes.{is_node, has_steps_of_its_own};
 
-use crate::frame::{ExprFrame, Frame, Now};
 use crate::operate::no_elements;
 use crate::quote::variable;
 use crate::{choice, list, quote};
 use backward_list::Backward;
 use order_map::ByteText;
 use php_meaning::FatalName;
+use php_rest::{ExprFrame, Frame, Now};
 use php_tree::expr::Expr;
 use php_values::Value;
 use php_world::{Reading, Store};

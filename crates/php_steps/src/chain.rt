@@ -5,13 +5,12 @@ ghost use Rattle.php_values.specs.Data.{data_of};
 ghost use Rattle.php_meaning.specs.Course.{on_value};
 ghost use Rattle.php_meaning.specs.Operators as meaning;
 ghost use Rattle.php_meaning.specs.Expressions as expressions;
-ghost use Rattle.php_steps.specs.Laws.{Steps};
-ghost use Rattle.php_steps.specs.Named.{links_named};
+ghost use Rattle.php_rest.specs.Laws.{Steps};
+ghost use Rattle.php_rest.specs.Named.{links_named};
 
-use crate::frame::{ExprFrame, Frame, Now};
 use crate::operate::{chained, decided};
-use crate::outcome::Outcome;
 use backward_list::Backward;
+use php_rest::{ExprFrame, Frame, Now, Outcome};
 use php_tree::expr::{ChainOp, Expr};
 use php_values::Value;
 use std::alloc::{AllocError, Global};

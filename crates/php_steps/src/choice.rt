@@ -4,13 +4,13 @@ ghost use Rattle.std.specs.Prelude.{◌≡◌, false, IfOk};
 ghost use Rattle.php_values.specs.Data.{data_of};
 ghost use Rattle.php_meaning.specs.Operators as meaning;
 ghost use Rattle.php_meaning.specs.Expressions as expressions;
-ghost use Rattle.php_steps.specs.Laws.{Steps};
+ghost use Rattle.php_rest.specs.Laws.{Steps};
 ghost use Rattle.php_steps.specs.Nodes.{is_node};
-ghost use Rattle.php_steps.specs.Rest.{next_of};
-ghost use Rattle.php_steps.specs.Named.{all_named, branches_named};
+ghost use Rattle.php_rest.specs.Rest.{next_of};
+ghost use Rattle.php_rest.specs.Named.{all_named, branches_named};
 
-use crate::frame::{ExprFrame, Frame, Now, Printed};
 use backward_list::Backward;
+use php_rest::{ExprFrame, Frame, Now, Printed};
 use php_tree::expr::{Branch, Expr};
 use php_values::{Value, truth};
 use std::alloc::AllocError;

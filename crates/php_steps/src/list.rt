@@ -6,13 +6,12 @@ ghost use Rattle.php_world.specs.Steps as steps;
 ghost use Rattle.php_world.specs.View.{step_of};
 ghost use Rattle.php_meaning.specs.Constants.{with_element};
 ghost use Rattle.php_meaning.specs.Expressions as expressions;
-ghost use Rattle.php_steps.specs.Laws.{Steps};
+ghost use Rattle.php_rest.specs.Laws.{Steps};
 ghost use Rattle.php_steps.specs.Nodes.{is_node};
-ghost use Rattle.php_steps.specs.Named.{items_named};
+ghost use Rattle.php_rest.specs.Named.{items_named};
 
-use crate::frame::{ExprFrame, Frame, Now};
-use crate::outcome::place_refused;
 use backward_list::Backward;
+use php_rest::{ExprFrame, Frame, Now, place_refused};
 use php_tree::expr::{Expr, Item};
 use php_values::Value;
 use php_world::{Change, Step, write_value};

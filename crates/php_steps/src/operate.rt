@@ -5,11 +5,11 @@ ghost use Rattle.php_tree.specs.declared.expr.UnaryOp.TheVariants as unary;
 ghost use Rattle.php_values.specs.Data.{truth, data_of};
 ghost use Rattle.php_meaning.specs.Constants as constants;
 ghost use Rattle.php_meaning.specs.Operators as meaning;
-ghost use Rattle.php_steps.specs.Outcomes.{Answers, equal_or_not, order_data};
+ghost use Rattle.php_rest.specs.Outcomes.{Answers, equal_or_not, order_data};
 
-use crate::outcome::{Outcome, operand_refused, text_refused, value_refused};
 use order_map::{Key, OrderMap};
 use php_meaning::FatalName;
+use php_rest::{Outcome, operand_refused, text_refused, value_refused};
 use php_tree::expr::{ChainOp, CompareOp, UnaryOp};
 use php_values::{
     ArithOp, ArrayValue, Value, arith, compare, loose_eq, strict_eq, to_int, to_text, truth,

@@ -1,5 +1,5 @@
 use Rattle.std.proofs.Common.{◌∙◌}
-use Rattle.php_steps.specs.Rest.{rest}
+use Rattle.php_rest.specs.Rest.{rest}
 use Rattle.php_steps.proofs.Rows.{first_of, go-key, go-member, go-embedded}
 use Rattle.php_steps.proofs.quote.go_on.Goals as goal
 

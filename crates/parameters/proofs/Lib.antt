@@ -1,0 +1,4 @@
+pub mod Writes
+pub mod Bracketing
+pub mod Pairing
+pub mod Cutting

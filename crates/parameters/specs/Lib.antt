@@ -1,0 +1,4 @@
+pub mod Names
+pub mod Nested
+pub mod Parameters
+pub mod Cookies

@@ -1,0 +1,4 @@
+pub mod Stack
+pub mod Fronts
+pub mod Reading
+pub mod File
