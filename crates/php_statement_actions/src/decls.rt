@@ -42,7 +42,6 @@ pub fn function(alloc: Global, stack: &mut Stack<'_>) -> Result<(), AllocError>
     let name = pop_fun_name(alloc, stack)?;
     let line = pop_line(stack);
     let decl = FunDecl {
-        ordinal: 0,
         name,
         params: params.into_items(),
         result: hint,

@@ -78,7 +78,6 @@ fn method_of(head: Signature, body: Body) -> FunDecl
         line,
     } = head;
     FunDecl {
-        ordinal: 0,
         name,
         params,
         result: hint,

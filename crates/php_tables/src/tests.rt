@@ -14,7 +14,6 @@ fn declaration(alloc: Global, name: &[u8]) -> Result<Boxed<FunDecl>, AllocError>
     let declaration = Boxed::new(
         alloc,
         FunDecl {
-            ordinal: 1,
             name,
             params: Items::new(alloc),
             result: None,

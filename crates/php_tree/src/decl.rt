@@ -31,8 +31,6 @@ pub struct Param {
 #[cycle(stmt)]
 #[derive(Drop)]
 pub struct FunDecl {
-    /// Its place among the declarations of the file that have a body, from 1 in text order.
-    pub ordinal: u32,
     pub name: FunName,
     pub params: Items<Param>,
     pub result: Option<Hint>,
