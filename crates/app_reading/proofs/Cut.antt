@@ -1,5 +1,5 @@
 -- Paths that are cut of a folder's path.
-use Rattle.std.proofs.Common.{◌≡◌, ℕ, ◌+◌, ◌<◌, ◌↔◌, Bool, true, false, cond, List, [], ◌∷◌, ◌++◌, length, map, filter, drop, nat_eq, Option, None, Some, Bor, MatchOption, IfSome, refl, sym, ap, ◌∙◌, subst, arith, String, string_bytes}
+use Rattle.std.proofs.Common.{◌≡◌, ℕ, ◌↔◌, Bool, true, false, cond, List, [], ◌∷◌, ◌++◌, length, filter, drop, nat_eq, Option, None, Some, Bor, MatchOption, IfSome, refl, sym, ap, ◌∙◌, subst}
 use Rattle.std.specs.List.{Contains, filter_map, starts_with}
 use Rattle.std.specs.Cmp.{unsigned_Decides}
 use Rattle.std.specs.Option.{option_copied}

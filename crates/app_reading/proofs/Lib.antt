@@ -1,2 +1,6 @@
 mod Lists
 mod Cut
+mod Found
+mod Told
+mod InFolder
+mod Steps

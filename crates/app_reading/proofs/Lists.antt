@@ -1,6 +1,6 @@
 -- What a list has, after it was filtered, mapped, put in order and freed of repeats.
 use Rattle.std.proofs.Common.{◌≡◌, ℕ, zero, suc, ◌+◌, ◌<◌, ◌↔◌, Bool, true, false, cond, List, [], ◌∷◌, length, map, filter, take, ◌++◌, get_or, nat_eq, Option, None, Some, refl, sym, ap, ◌∙◌, subst, arith, String, string_bytes}
-use Rattle.std.specs.List.{Contains, Any, AllByRecursion, filter_map, cons_option, dedup}
+use Rattle.std.specs.List.{Contains, AllByRecursion, filter_map, cons_option, dedup}
 use Rattle.std.specs.List.Sorted.{IsPermutation, IsSorted, IsStrictlySortedBy}
 use Rattle.std.specs.declared.cmp.Ordering.TheVariants.{Less}
 use Rattle.std.specs.Ordering.{nat_cmp}
@@ -14,10 +14,10 @@ use Rattle.std.specs.declared.alloc.Global.{Global}
 
 -- ---- the first item, and later ones
 
-here : {A : Type 0} (x : A) (xs : List A) → Contains (x ∷ xs) x
+pub here : {A : Type 0} (x : A) (xs : List A) → Contains (x ∷ xs) x
 here x xs = (0, omega arith, refl)
 
-later : {A : Type 0} (x : A) (xs : List A) (y : A) → Contains xs y → Contains (x ∷ xs) y
+pub later : {A : Type 0} (x : A) (xs : List A) (y : A) → Contains xs y → Contains (x ∷ xs) y
 later x xs y (k, h, e) = (suc k, omega arith, e)
 
 none : {A : Type 0} (y : A) → Contains [] y → ⊥
@@ -133,7 +133,7 @@ taken_next f (y ∷ xs) (suc i) x h e =
     let n : suc (i + 1) ≡ suc i + 1 = omega arith in
     subst (λ k. map f (take k (y ∷ xs)) ≡ map f (take (suc i) (y ∷ xs)) ++ f x ∷ []) n (ap (λ l. f y ∷ l) (taken_next f xs i x (omega arith) e))
 
-pub kept_next : (h : List ℕ → Option (List ℕ)) (xs : List Text) (i : ℕ) (x : Text) (path : List ℕ) (before after : List (List ℕ)) → before ≡ filter_map h (map string_bytes (take i xs)) → i < length xs → x ≡ get_or xs i x
+pub kept_next : {B : Type 0} (h : List ℕ → Option B) (xs : List Text) (i : ℕ) (x : Text) (path : List ℕ) (before after : List B) → before ≡ filter_map h (map string_bytes (take i xs)) → i < length xs → x ≡ get_or xs i x
     → path ≡ string_bytes x → after ≡ before ++ cons_option (h path) [] → after ≡ filter_map h (map string_bytes (take (i + 1) xs))
 kept_next h xs i x path before after known n e is next =
     next
