@@ -1,7 +1,2 @@
-pub mod Echoes
-pub mod Folders
-pub mod Judging
-pub mod Quoting
+pub mod Answers
 pub mod Statuses
-pub mod Steps
-pub mod Writes

@@ -1,6 +1,4 @@
-pub mod Built
-pub mod Judged
-pub mod Page
-pub mod Reading
+pub mod Answers
 pub mod Reply
 pub mod Status
+pub mod Words

@@ -13,235 +13,161 @@ fn words(alloc: Global, texts: &[&str]) -> Result<Vec<String>, Fail> {
     Ok(all)
 }
 
-fn folder(alloc: Global, files: &[(&str, &[u8])], failing: &[u64]) -> Result<FolderMem, Fail> {
+// A folder of one file, and the script `s` of one request.
+fn folder(alloc: Global, path: &str, text: &[u8], failing: &[u64]) -> Result<FolderMem, Fail> {
     let mut all = Vec::new(alloc);
-    for (path, bytes) in files {
-        all.push((
-            String::from_str(alloc, path)?,
-            Vec::from_slice(alloc, bytes)?,
-        ))?;
-    }
+    all.push((
+        String::from_str(alloc, path)?,
+        Vec::from_slice(alloc, text)?,
+    ))?;
+    all.push((
+        String::from_str(alloc, "s")?,
+        Vec::from_slice(alloc, REQUEST)?,
+    ))?;
     let failing = Vec::from_slice(alloc, failing)?;
     Ok(FolderMem::new(alloc, all, failing)?)
 }
 
-// Plays a page: the status, and whether exactly these bytes were written.
-fn plays(alloc: Global, page: &[u8], status: u8, reply: &[u8]) -> Result<bool, Fail> {
-    let words = words(alloc, &["play", "script.txt"])?;
-    let files: [(&str, &[u8]); 2] = [("copies/guest/index.php", page), ("script.txt", REQUEST)];
-    let mut folder = folder(alloc, &files, &[])?;
-    let mut out = SinkMem::new(alloc, 4096, Vec::new(alloc))?;
-    let mut notes = SinkMem::new(alloc, 4096, Vec::new(alloc))?;
-    let ended = less_run(alloc, &words, &mut folder, &mut out, &mut notes);
-    let note: &[u8] = if status == 0 {
-        b""
-    } else {
-        b"less: not built\n"
-    };
-    Ok(ended == status && out.written() == reply && notes.written() == note)
-}
-
-#[test]
-fn a_page_is_answered_with_its_bytes(rt: HostRuntime) -> Result<(), Fail> {
-    let alloc = rt.alloc();
-    let rows: [(&[u8], &[u8]); 9] = [
-        (
-            b"Hi <?php echo 'x'; ?>\n!",
-            b"HTTP/1.1 200 OK\r\nContent-Type: text/html; charset=UTF-8\r\nContent-Length: 5\r\nConnection: close\r\n\r\nHi x!",
-        ),
-        (
-            b"",
-            b"HTTP/1.1 200 OK\r\nContent-Type: text/html; charset=UTF-8\r\nContent-Length: 0\r\nConnection: close\r\n\r\n",
-        ),
-        (
-            b"<?php echo 'a\\\\b\\'c\\n';",
-            b"HTTP/1.1 200 OK\r\nContent-Type: text/html; charset=UTF-8\r\nContent-Length: 7\r\nConnection: close\r\n\r\na\\b'c\\n",
-        ),
-        (
-            b"<?php ?>\r\nx",
-            b"HTTP/1.1 200 OK\r\nContent-Type: text/html; charset=UTF-8\r\nContent-Length: 1\r\nConnection: close\r\n\r\nx",
-        ),
-        (
-            b"<?PHP EcHo'a' ,\t'b' ;;?>",
-            b"HTTP/1.1 200 OK\r\nContent-Type: text/html; charset=UTF-8\r\nContent-Length: 2\r\nConnection: close\r\n\r\nab",
-        ),
-        (
-            b"<?= 'a', 'b' ?>c<?php",
-            b"HTTP/1.1 200 OK\r\nContent-Type: text/html; charset=UTF-8\r\nContent-Length: 3\r\nConnection: close\r\n\r\nabc",
-        ),
-        (
-            b"<?phpx <? <?xml?>",
-            b"HTTP/1.1 200 OK\r\nContent-Type: text/html; charset=UTF-8\r\nContent-Length: 17\r\nConnection: close\r\n\r\n<?phpx <? <?xml?>",
-        ),
-        (
-            b"<?php\recho 'a';",
-            b"HTTP/1.1 200 OK\r\nContent-Type: text/html; charset=UTF-8\r\nContent-Length: 15\r\nConnection: close\r\n\r\n<?php\recho 'a';",
-        ),
-        (
-            b"<?php echo 'a?>b' ?>\r\r\n",
-            b"HTTP/1.1 200 OK\r\nContent-Type: text/html; charset=UTF-8\r\nContent-Length: 7\r\nConnection: close\r\n\r\na?>b\r\r\n",
-        ),
-    ];
-    for (page, reply) in &rows {
-        assert!(rt; plays(alloc, page, 0, reply)?);
-    }
-    Ok(())
-}
-
-#[test]
-fn what_is_not_built_writes_nothing(rt: HostRuntime) -> Result<(), Fail> {
-    let alloc = rt.alloc();
-    let pages: [&[u8]; 7] = [
-        b"<?php echo 1;",
-        b"<?php echo 'a'",
-        b"<?php echo 'a',;",
-        b"<?php # x",
-        b"<?php print 'a';",
-        b"a<?= ?>",
-        b"<?php echo \"a\";",
-    ];
-    for page in &pages {
-        assert!(rt; plays(alloc, page, 1, b"")?);
-    }
-    Ok(())
-}
-
-// Plays a page that is refused: whether nothing was written but exactly this note.
-fn refuses(alloc: Global, page: &[u8], note: &[u8]) -> Result<bool, Fail> {
-    let words = words(alloc, &["play", "script.txt"])?;
-    let files: [(&str, &[u8]); 2] = [("copies/guest/index.php", page), ("script.txt", REQUEST)];
-    let mut folder = folder(alloc, &files, &[])?;
-    let mut out = SinkMem::new(alloc, 4096, Vec::new(alloc))?;
-    let mut notes = SinkMem::new(alloc, 4096, Vec::new(alloc))?;
-    let ended = less_run(alloc, &words, &mut folder, &mut out, &mut notes);
-    Ok(ended == 10 && out.written().is_empty() && notes.written() == note)
-}
-
-#[test]
-fn a_page_without_tokens_is_refused_on_its_line(rt: HostRuntime) -> Result<(), Fail> {
-    let alloc = rt.alloc();
-    assert!(rt;
-        refuses(
-            alloc,
-            b"<?php\n1.5;",
-            b"less: copy guest index.php:2: badfile\n"
-        )?
-    );
-    assert!(rt;
-        refuses(
-            alloc,
-            b"<?php echo 'a",
-            b"less: copy guest index.php:1: badfile\n"
-        )?
-    );
-    assert!(rt;
-        refuses(
-            alloc,
-            b"\n\n<?php /* x\n",
-            b"less: copy guest index.php:3: badfile\n"
-        )?
-    );
-    Ok(())
-}
-
-// The status of words over these files, and how much was written.
-fn ends(alloc: Global, texts: &[&str], files: &[(&str, &[u8])]) -> Result<(u8, usize), Fail> {
+// Whether words over a folder of one file end with this status, answer and note.
+fn ends(
+    alloc: Global,
+    texts: &[&str],
+    path: &str,
+    text: &[u8],
+    told: (u8, &[u8], &[u8]),
+) -> Result<bool, Fail> {
     let words = words(alloc, texts)?;
-    let mut folder = folder(alloc, files, &[])?;
+    let mut folder = folder(alloc, path, text, &[])?;
     let mut out = SinkMem::new(alloc, 4096, Vec::new(alloc))?;
     let mut notes = SinkMem::new(alloc, 4096, Vec::new(alloc))?;
     let status = less_run(alloc, &words, &mut folder, &mut out, &mut notes);
-    Ok((status, out.written().len()))
+    Ok(status == told.0 && out.written() == told.1 && notes.written() == told.2)
 }
 
 #[test]
-fn other_words_scripts_and_copies_are_not_built(rt: HostRuntime) -> Result<(), Fail> {
+fn check_tells_the_size_or_the_first_fault(rt: HostRuntime) -> Result<(), Fail> {
     let alloc = rt.alloc();
-    let page: (&str, &[u8]) = ("copies/guest/index.php", b"x");
-    let script: (&str, &[u8]) = ("s", REQUEST);
-    let files = [page, script];
-    assert_eq!(rt; ends(alloc, &["play", "s"], &files)?, (0, 98));
-    assert_eq!(rt; ends(alloc, &[], &files)?, (1, 0));
-    assert_eq!(rt; ends(alloc, &["play"], &files)?, (1, 0));
-    assert_eq!(rt; ends(alloc, &["Play", "s"], &files)?, (1, 0));
-    assert_eq!(rt; ends(alloc, &["play", "s", "s"], &files)?, (1, 0));
-    assert_eq!(rt; ends(alloc, &["play", "t"], &files)?, (1, 0));
-    assert_eq!(rt;
-        ends(alloc, &["play", "copies/guest/index.php"], &files)?,
-        (1, 0)
+    let rows: [(&[u8], (u8, &[u8], &[u8])); 5] = [
+        (
+            b"<?php\nfunction gone() {\n  echo 1;\n  echo 2;\n}\ntry { throw new Exception('e'); } catch (Exception $e) { echo $e->getLine(); }\n",
+            (0, b"ok 1 files 1 functions 6 lines\n", b""),
+        ),
+        (
+            b"<?php\nfunction a() {}\nfunction A() {}\n",
+            (3, b"", b"less: app index.php:3: twice a\n"),
+        ),
+        (
+            b"<?php\nfunction Less_Removed() {}\n",
+            (
+                3,
+                b"",
+                b"less: app index.php:2: reservedword Less_Removed\n",
+            ),
+        ),
+        (
+            b"<?php goto a;",
+            (3, b"", b"less: app index.php:1: parse leftout goto\n"),
+        ),
+        (
+            b"<?php\n\necho 1.5;",
+            (3, b"", b"less: app index.php:3: lex form float\n"),
+        ),
+    ];
+    for (text, told) in &rows {
+        assert!(rt; ends(alloc, &["check"], "app/index.php", text, *told)?);
+    }
+    Ok(())
+}
+
+#[test]
+fn play_answers_from_a_plain_page_or_refuses_the_copy(rt: HostRuntime) -> Result<(), Fail> {
+    let alloc = rt.alloc();
+    let rows: [(&[u8], (u8, &[u8], &[u8])); 5] = [
+        (
+            b"Hi <?php echo 'x'; // y ?>\n!",
+            (
+                0,
+                b"HTTP/1.1 200 OK\r\nContent-Type: text/html; charset=UTF-8\r\nContent-Length: 5\r\nConnection: close\r\n\r\nHi x!",
+                b"",
+            ),
+        ),
+        (b"<?php echo 1;", (1, b"", b"less: not built\n")),
+        (
+            b"<?php\n1.5;",
+            (10, b"", b"less: copy guest index.php:2: badfile\n"),
+        ),
+        (
+            b"<?php\nfunction f() {less_removed('function','index.php','g');}",
+            (10, b"", b"less: copy guest index.php:2: placeholder\n"),
+        ),
+        (
+            b"<?php\nfunction f() {less_removed('function','index.php','f');}",
+            (1, b"", b"less: not built\n"),
+        ),
+    ];
+    for (text, told) in &rows {
+        assert!(rt; ends(alloc, &["play", "s"], "copies/guest/index.php", text, *told)?);
+    }
+    Ok(())
+}
+
+#[test]
+fn other_words_and_paths_are_told_apart(rt: HostRuntime) -> Result<(), Fail> {
+    let alloc = rt.alloc();
+    let not_built: (u8, &[u8], &[u8]) = (1, b"", b"less: not built\n");
+    let path = "copies/guest/index.php";
+    assert!(rt; ends(alloc, &[], path, b"x", not_built)?);
+    assert!(rt; ends(alloc, &["Check"], path, b"x", not_built)?);
+    assert!(rt; ends(alloc, &["play", "t"], path, b"x", not_built)?);
+    assert!(rt; ends(alloc, &["play", path], path, b"x", not_built)?);
+    assert!(rt; ends(alloc, &["play", "s"], "copies/guest/b.php", b"x", not_built)?);
+    assert!(rt;
+        ends(
+            alloc,
+            &["check"],
+            "app/.a/b.php",
+            b"<?php 1.5;",
+            (0, b"ok 0 files 0 functions 0 lines\n", b"")
+        )?
     );
-    assert_eq!(rt; ends(alloc, &["play", ".."], &files)?, (1, 0));
-    assert_eq!(rt;
-        ends(alloc, &["play", "s"], &[page, ("s", b"request 18\n")])?,
-        (1, 0)
+    assert!(rt;
+        ends(
+            alloc,
+            &["check"],
+            "app/a'b.php",
+            b"",
+            (3, b"", b"less: app :0: limit path\n")
+        )?
     );
-    assert_eq!(rt; ends(alloc, &["play", "s"], &[script])?, (1, 0));
-    assert_eq!(rt;
-        ends(alloc, &["play", "s"], &[("app/index.php", b"x"), script])?,
-        (1, 0)
-    );
-    assert_eq!(rt;
+    assert!(rt;
         ends(
             alloc,
             &["play", "s"],
-            &[page, ("copies/guest/b.php", b""), script]
-        )?,
-        (1, 0)
+            "copies/guest/a'b.php",
+            b"",
+            (10, b"", b"less: copy guest :0: badfile\n")
+        )?
     );
     Ok(())
+}
+
+// The status of words whose folder fails at a call, or whose output takes so many bytes.
+fn fails(alloc: Global, texts: &[&str], failing: &[u64], room: usize) -> Result<u8, Fail> {
+    let words = words(alloc, texts)?;
+    let mut folder = folder(alloc, "app/index.php", b"x", failing)?;
+    let mut out = SinkMem::new(alloc, room, Vec::new(alloc))?;
+    let mut notes = SinkMem::new(alloc, 4096, Vec::new(alloc))?;
+    Ok(less_run(alloc, &words, &mut folder, &mut out, &mut notes))
 }
 
 #[test]
 fn each_fault_of_the_outside_has_its_own_status(rt: HostRuntime) -> Result<(), Fail> {
     let alloc = rt.alloc();
-    let words = words(alloc, &["play", "s"])?;
-    let files: [(&str, &[u8]); 2] = [("copies/guest/index.php", b"x"), ("s", REQUEST)];
-    for call in 0..3_u64 {
-        let mut folder = folder(alloc, &files, &[call])?;
-        let mut out = SinkMem::new(alloc, 4096, Vec::new(alloc))?;
-        let mut notes = SinkMem::new(alloc, 4096, Vec::new(alloc))?;
-        assert_eq!(rt;
-            less_run(alloc, &words, &mut folder, &mut out, &mut notes),
-            6
-        );
-        assert_eq!(rt; out.written(), b"".as_slice());
-        assert_eq!(rt; notes.written(), b"less: read fault\n".as_slice());
-    }
-    let mut folder = folder(alloc, &files, &[])?;
-    let mut out = SinkMem::new(alloc, 4096, vec![in alloc; 0_u64]?)?;
-    let mut notes = SinkMem::new(alloc, 4096, Vec::new(alloc))?;
-    assert_eq!(rt;
-        less_run(alloc, &words, &mut folder, &mut out, &mut notes),
-        7
-    );
-    assert_eq!(rt; notes.written(), b"less: write fault\n".as_slice());
-    let mut narrow = SinkMem::new(alloc, 97, Vec::new(alloc))?;
-    let mut silent = SinkMem::new(alloc, 0, Vec::new(alloc))?;
-    assert_eq!(rt;
-        less_run(alloc, &words, &mut folder, &mut narrow, &mut silent),
-        7
-    );
-    Ok(())
-}
-
-#[test]
-fn a_run_ends_where_its_budget_is_spent(rt: HostRuntime) -> Result<(), Fail> {
-    let alloc = rt.alloc();
-    let page = b"<?php echo 'a'; ;; echo 'b', 'c'; ?>d";
-    let rows: [(u32, &[u8], bool); 4] = [
-        (0, b"", true),
-        (1, b"a", true),
-        (2, b"abc", true),
-        (3, b"abcd", false),
-    ];
-    for (budget, output, spent) in &rows {
-        match run_page(alloc, page, *budget)? {
-            Some(run) => {
-                assert_eq!(rt; run.output(), *output);
-                assert_eq!(rt; run.is_spent(), *spent);
-            }
-            None => assert!(rt; false),
-        }
-    }
+    assert_eq!(rt; fails(alloc, &["check"], &[0], 4096)?, 6);
+    assert_eq!(rt; fails(alloc, &["check"], &[1], 4096)?, 6);
+    assert_eq!(rt; fails(alloc, &["play", "s"], &[0], 4096)?, 6);
+    assert_eq!(rt; fails(alloc, &["play", "s"], &[1], 4096)?, 6);
+    assert_eq!(rt; fails(alloc, &["check"], &[], 30)?, 7);
+    assert_eq!(rt; fails(alloc, &["check"], &[], 31)?, 0);
     Ok(())
 }
