@@ -1,0 +1,3 @@
+mod Misses
+mod Searched
+mod Listing
