@@ -10,7 +10,8 @@ const PIECE: u32 = 1_048_576;
 
 const FUNCTIONS_OF_A_FILE: u32 = 1_000;
 
-fn push_number(text: &mut Vec<u8>, number: u32) -> Result<(), AllocError> {
+/// Puts a number in decimal behind a text.
+pub fn push_number(text: &mut Vec<u8>, number: u32) -> Result<(), AllocError> {
     let mut digits = Buffer::new();
     text.extend_from_slice(digits.format(number).as_bytes())?;
     Ok(())
@@ -93,7 +94,9 @@ fn push_path(alloc: Global, files: &mut Files, len: u32) -> Result<(), AllocErro
 pub fn files_of(alloc: Global, row: &Row<'_>) -> Result<Vec<(String, Vec<u8>)>, AllocError> {
     let mut files = Vec::new(alloc);
     match row {
-        Row::Text(text) => push_text(alloc, &mut files, "app/index.php", text)?,
+        Row::Text(text) | Row::Entries(text) => {
+            push_text(alloc, &mut files, "app/index.php", text)?
+        }
         Row::Copy(text) => push_text(alloc, &mut files, "copies/guest/index.php", text)?,
         Row::Files(count) => {
             for number in 0..*count {

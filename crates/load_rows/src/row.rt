@@ -6,6 +6,8 @@ pub enum Row<'l> {
     Text(&'l str),
     /// A guest's copy of the same kind.
     Copy(&'l str),
+    /// The entries of such an application, each with its ordinal.
+    Entries(&'l str),
     /// So many empty files that are no PHP files.
     Files(u32),
     /// One PHP file of so many bytes.
@@ -28,6 +30,7 @@ pub fn parse(line: &str) -> Option<Row<'_>> {
     match word {
         "text" => Some(Row::Text(rest)),
         "copy" => Some(Row::Copy(rest)),
+        "entries" => Some(Row::Entries(rest)),
         "both" => Some(Row::Both),
         _ => {
             let number = rest.parse::<u32>().ok()?;
