@@ -1,0 +1,3 @@
+pub mod Restoring
+pub mod Copying
+pub mod Originals

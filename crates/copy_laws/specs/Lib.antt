@@ -1,0 +1,3 @@
+pub mod Restored
+pub mod Exact
+pub mod Originals
