@@ -115,7 +115,7 @@ module _ (t : List ℕ → List ℕ) where
     members_found class (s.method mods f l ms) = both (function_found sort.Method class f) (members_found class ms)
     members_found class (s.bodiless mods h l ms) = ap (λ fs. head t sort.Method class h ++ fs) (members_found class ms)
 
-found_or_none : (t : Option Tree) → findings_or_none (restored_or_none t) ≡ findings_or_none t
+pub found_or_none : (t : Option Tree) → findings_or_none (restored_or_none t) ≡ findings_or_none t
 found_or_none None = refl
 found_or_none (Some ss) = all_found (λ name. name) 0 ss
 

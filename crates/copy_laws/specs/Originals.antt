@@ -1,5 +1,5 @@
 -- Which files an accepted copy was taken from, and what was kept of them.
-use Rattle.std.specs.Prelude.{◌≡◌, ℕ, Bool, true, false, List, [], map, Option, Some, None}
+use Rattle.std.specs.Prelude.{◌≡◌, ⊤, ℕ, ◌≤◌, Bool, true, false, List, [], ◌∷◌, map, Option, Some, None}
 use Rattle.php_tree.specs.Functions.{spans_in}
 use Rattle.php_tree.specs.declared.file.Span.{Span}
 use Rattle.app_load.specs.Applications.{functions_of_all}
@@ -7,6 +7,7 @@ use Rattle.app_load.specs.Copies.{IsCopyOf}
 use Rattle.app_load.specs.Files.{Tree, File}
 use Rattle.app_load.specs.Findings.{Finding, findings_in}
 use Rattle.app_load.specs.Kept.{Keeps}
+use Rattle.app_load.specs.Twice.{first_twice, first_leaving}
 use Rattle.app_load.specs.Parts.{Part, body, stub, part_at, parts}
 use Rattle.copy_laws.specs.Exact.{FilesFree}
 
@@ -46,6 +47,17 @@ spans_or_none (Some ss) = spans_in ss
 
 abbrev pub all_spans : List File → List (List (List ℕ × Span))
 all_spans fs = map (λ f. spans_or_none f.tree) fs
+
+-- no name is declared twice in a file, and no jump leaves more than there is around it
+abbrev pub PassRules : List File → Type 0
+PassRules [] = ⊤
+PassRules (f ∷ fs) = ((first_twice (findings_or_none f.tree) ≡ None) × (first_leaving (findings_or_none f.tree) ≡ None)) × PassRules fs
+
+-- Files as an application may have them, by their trees.
+pub record MayBeApplication (fs : List File) : Type 0 where
+  pub free : FilesFree fs
+  pub rules : PassRules fs
+  pub few : functions_of_all fs ≤ 20000
 
 -- ---- the original of a copy
 
