@@ -1,5 +1,5 @@
 -- What holds of the files of an accepted application or copy.
-use Rattle.std.proofs.Common.{◌≡◌, ℕ, ◌≤◌, Bool, true, false, ◌&&◌, List, [], ◌∷◌, ◌++◌, refl, sym, ap, subst, ◌∙◌, map, true≢false, String, Vec, Less}
+use Rattle.std.proofs.Common.{◌≡◌, ℕ, ◌≤◌, Bool, true, false, List, [], ◌∷◌, ◌++◌, refl, sym, ap, subst, ◌∙◌, map, true≢false, String, Vec, Less}
 use Rattle.std.specs.Prelude.{Option, Some, None, if◌then◌else◌, ⊤}
 use Rattle.std.specs.List.{AllByRecursion}
 use Rattle.std.specs.List.Sorted.{IsStrictlySortedBy}
@@ -13,14 +13,14 @@ use Rattle.php_tree.specs.Parts.{all_without_bodies, bodies_in}
 use Rattle.php_tree.specs.Renamed.{name_at}
 use Rattle.php_tree.specs.StatementOf.{statements_of}
 use Rattle.app_load.specs.declared.judge.Setting.{Setting}
-use Rattle.app_load.specs.Applications.{Text, Outcome, accepted, refused, strayed, with_file, FilesJudged, no_more, static, php, php_bad, php_stray, functions_of_all, IsOutcome, past_limit, bad_file, stray_word, too_many, all_good, IsOutcomeOf, AreInOrder}
+use Rattle.app_load.specs.Applications.{Text, Outcome, accepted, refused, strayed, with_file, FilesJudged, no_more, static, php, php_bad, php_stray, functions_of_all, IsOutcome, past_limit, bad_file, stray_word, too_many, all_good, IsOutcomeOf}
 use Rattle.app_load.specs.CopyParts.{StandOnce, path_of}
-use Rattle.app_load.specs.Entries.{Entry, file, function, is_same}
+use Rattle.app_load.specs.Entries.{Entry, file, function}
 use Rattle.app_load.specs.Files.{Tree, File, tree_of}
-use Rattle.app_load.specs.Judged.{Verdict, good, bad, stray, Judged, fine, too_long, file_findings}
-use Rattle.app_load.specs.Parts.{Part, Parts, part_of, body_entry, part_at, parts, parts_or_none, file_parts, tree_parts}
+use Rattle.app_load.specs.Judged.{Verdict, good, Judged, fine, file_findings}
+use Rattle.app_load.specs.Parts.{Parts, part_of, body_entry, part_at, parts, parts_or_none, file_parts}
 use Rattle.app_load.specs.Twice.{first_twice, first_leaving}
-use Rattle.app_load.proofs.Bodies.{Bodies, look, named_alike, names_itself, AreOnce}
+use Rattle.app_load.proofs.Bodies.{Bodies, named_alike, names_itself, AreOnce}
 use Rattle.app_load.proofs.PartsOf.{or_part, part_append, part_or_none, body_here, body_elsewhere, no_file}
 use Rattle.copy_laws.specs.Originals.{tree_findings, findings_or_none, PassRules}
 use Rattle.copy_laws.specs.Words.{ArePlain, FilesPlain}

@@ -1,12 +1,11 @@
 -- The key of a declared name, from the name of its entry.
-use Rattle.std.proofs.Common.{◌≡◌, ℕ, ◌+◌, ◌==◌, ◌<◌, ◌≤◌, Bool, true, false, ◌||◌, List, [], ◌∷◌, ◌++◌, refl, sym, ap, subst, ◌∙◌, map, drop, true≢false, append_assoc, arith}
-use Rattle.std.specs.Prelude.{codes, if◌then◌else◌, nat_lt, cond}
+use Rattle.std.proofs.Common.{◌≡◌, ℕ, ◌==◌, Bool, true, false, ◌||◌, List, [], ◌∷◌, ◌++◌, refl, ap, ◌∙◌, drop, true≢false, append_assoc, arith}
+use Rattle.std.specs.Prelude.{codes, if◌then◌else◌}
 use Rattle.std.specs.Char.{to_ascii_lowercase}
 use Rattle.std.specs.Str.{str_to_ascii_lowercase}
 use Rattle.std.proofs.lemmas.Grind.{common_steps}
 use Rattle.php_tree.specs.Functions.{class_prefix}
 use Rattle.app_load.specs.declared.finding.Sort.TheVariants as sort
-use Rattle.app_load.specs.Findings.{Name}
 use Rattle.app_load.specs.Twice.{key}
 use Rattle.copy_laws.specs.Words.{has_colon}
 

@@ -6,3 +6,4 @@ pub mod Once
 pub mod Renaming
 pub mod Accepted
 pub mod Programs
+pub mod Rows

@@ -7,13 +7,12 @@ use Rattle.php_tree.specs.Functions.{entry_name, class_prefix}
 use Rattle.php_tree.specs.Parts.{all_without_bodies, bodies, bodies_in, arms_bodies, cases_bodies, clauses_bodies, function_bodies, members_bodies}
 use Rattle.php_tree.specs.Statements as s
 use Rattle.php_tree.specs.Statements.{Head, Statement, Statements, Arms, Cases, Clauses, Function, Class, Members}
-use Rattle.app_load.specs.declared.finding.Sort.{Sort}
 use Rattle.app_load.specs.declared.finding.Sort.TheVariants as sort
 use Rattle.app_load.specs.Files.{Tree}
 use Rattle.app_load.specs.Findings.{Name, Finding, declares, leaves, jump, named, parameter, head, constant, property, findings, findings_in, arms_findings, cases_findings, clauses_findings, function_findings, members_findings}
 use Rattle.app_load.specs.Twice.{key, first_again, first_twice}
 use Rattle.app_load.proofs.Bodies.{Bodies, look, named_alike, names_itself, AreOnce}
-use Rattle.copy_laws.specs.Words.{has_colon, ArePlain}
+use Rattle.copy_laws.specs.Words.{ArePlain}
 use Rattle.copy_laws.proofs.Keyed.{keyed, or_true, function_keyed, method_keyed}
 
 -- the names of bodies are among those that are declared, in their order

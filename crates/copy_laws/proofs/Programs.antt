@@ -1,13 +1,12 @@
 -- An accepted copy is the copy of trees that an application may have.
-use Rattle.std.proofs.Common.{◌≡◌, ℕ, ◌≤◌, List, [], ◌∷◌, sym, ap, subst, ◌∙◌, String, Vec}
-use Rattle.std.specs.Prelude.{Option, Some, None, ⊤}
+use Rattle.std.proofs.Common.{ℕ, ◌≤◌, List, [], ◌∷◌, sym, ap, subst, ◌∙◌, String, Vec}
 use Rattle.std.specs.declared.alloc.Global.{Global}
 use Rattle.app_load.specs.declared.judge.Setting.TheVariants.{Copy}
 use Rattle.app_load.specs.Applications.{IsProgram}
 use Rattle.app_load.specs.Files.{File}
 use Rattle.app_load.specs.Twice.{first_twice, first_leaving}
 use Rattle.copy_laws.specs.Exact.{FilesExact}
-use Rattle.copy_laws.specs.Originals.{kept_in, findings_or_none, PassRules, MayBeApplication, AreOriginal}
+use Rattle.copy_laws.specs.Originals.{kept_in, PassRules, MayBeApplication, AreOriginal}
 use Rattle.copy_laws.specs.Restored.{restored_files}
 use Rattle.copy_laws.specs.Words.{FilesPlain}
 use Rattle.copy_laws.proofs.Accepted.{entries_once, accepted_passes, accepted_few}

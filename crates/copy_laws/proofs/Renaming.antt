@@ -7,7 +7,7 @@ use Rattle.php_tree.specs.Statements as s
 use Rattle.php_tree.specs.Statements.{Parameter, Head, Statement, Statements, Arms, Cases, Clauses, Function, Class, Members}
 use Rattle.app_load.specs.declared.finding.Sort.{Sort}
 use Rattle.app_load.specs.declared.finding.Sort.TheVariants as sort
-use Rattle.app_load.specs.Findings.{Finding, named, parameter, head, constant, property, findings, findings_in, arms_findings, cases_findings, clauses_findings, function_findings, members_findings}
+use Rattle.app_load.specs.Findings.{named, parameter, head, constant, property, findings, findings_in, arms_findings, cases_findings, clauses_findings, function_findings, members_findings}
 
 -- two parts of a list, each with what it is
 both : {A : Type 0} {a b x y : List A} → a ≡ b → x ≡ y → a ++ x ≡ b ++ y
