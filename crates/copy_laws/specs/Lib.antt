@@ -1,0 +1,4 @@
+pub mod Restored
+pub mod Exact
+pub mod Originals
+pub mod Words
