@@ -136,6 +136,14 @@ one (x ∷ xs) (y ∷ ys) up rise to back =
     (λ t m. behind y x ys xs rise up t (sym e) m (back t (later y ys t m))) in
     ap (λ h. h ∷ xs) e ∙ ap (λ ts. y ∷ ts) rest
 
+-- two lists in byte order of the paths, none twice, with the same members are one list
+pub same_members : (xs ys : List Text) → IsStrictlySortedBy cmp (map first xs) → IsStrictlySortedBy cmp (map first ys)
+    → ((t : Text) → Contains xs t → Contains ys t) → ((t : Text) → Contains ys t → Contains xs t) → xs ≡ ys
+same_members xs ys up rise to back =
+    one xs ys up rise
+    (λ t m. let c = to t (contained xs t m) in among ys t c.0 c.1 c.2)
+    (λ t m. let c = back t (contained ys t m) in among xs t c.0 c.1 c.2)
+
 pub one_order : (given : List Pair) (xs ys : List Text) → AreInOrder given xs → AreInOrder given ys → xs ≡ ys
 one_order given xs ys a b =
     let same = IsPermutation-trans xs (map text_of given) ys (IsPermutation-sym (map text_of given) xs a.all) b.all in

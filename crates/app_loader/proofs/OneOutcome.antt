@@ -76,7 +76,7 @@ not_few fs gs e many few =
     let counts = ap functions_of_all same in
     omega arith
 
-one_of : (setting : Setting) (ts : List Text) (o p : Outcome) → IsOutcome setting ts o → IsOutcome setting ts p → o ≡ p
+pub one_of : (setting : Setting) (ts : List Text) (o p : Outcome) → IsOutcome setting ts o → IsOutcome setting ts p → o ≡ p
 one_of setting ts _ _ (past_limit {n = n1} e1) (past_limit {n = n2} e2) = ap (λ n. refused [] 0 (Limit n)) (same_limit ts n1 n2 e1 e2)
 one_of setting ts _ _ (past_limit {n = n1} e1) (bad_file {path = p2} {l = l2} {k = k2} e2 j2) = absurd (not_past ts n1 e1 e2)
 one_of setting ts _ _ (past_limit {n = n1} e1) (stray_word {path = p2} {l = l2} e2 j2) = absurd (not_past ts n1 e1 e2)
