@@ -8,6 +8,8 @@ pub enum Work {
     Link,
     /// Requests with a body of so many bytes, from a link.
     Body,
+    /// Forms of so many pairs, from bytes to what a script is given.
+    Form,
     /// Replies with an output of so many bytes.
     Reply,
 }
@@ -25,6 +27,7 @@ fn parse_work(word: &str) -> Option<Work> {
         "heads" => Some(Work::Heads),
         "link" => Some(Work::Link),
         "body" => Some(Work::Body),
+        "form" => Some(Work::Form),
         "reply" => Some(Work::Reply),
         _ => None,
     }
