@@ -1,5 +1,5 @@
 -- What is read by the grammar declares plain names, where the words among the tokens are plain.
-use Rattle.std.proofs.Common.{◌≡◌, ℕ, ◌+◌, ℤ, Bool, true, false, List, [], ◌∷◌, ◌++◌, refl, sym, ap, subst, ◌∙◌, map, Option, Some, None}
+use Rattle.std.proofs.Common.{◌≡◌, ℕ, ◌+◌, ℤ, Bool, true, false, List, [], ◌∷◌, ◌++◌, refl, subst, map, Option, Some, None}
 use Rattle.std.specs.Prelude.{⊤, if◌then◌else◌}
 use Rattle.php_tree.specs.declared.file.Span.{Span}
 use Rattle.php_tree.specs.declared.decl.Modifiers.{Modifiers}
@@ -19,12 +19,11 @@ use Rattle.php_grammar.specs.declared.part.Rule.{Rule}
 use Rattle.php_grammar.specs.declared.part.Rule.TheVariants as g
 use Rattle.php_grammar.specs.declared.part.Symbol.{Symbol}
 use Rattle.php_grammar.specs.declared.part.Symbol.TheVariants.{Tok as tok, Sub as sub}
-use Rattle.php_grammar.specs.Grammar.{steps, operand, goes_on, choose, production, weight}
-use Rattle.php_grammar.specs.Values.{Core, constants_core, properties_core, function_core, Value, leaf, stmt_of, stmts_of, cases_of, clauses_of, members_of, body_of, if_parts, modded_of, begun_of, expr_of, as_token, as_stmt, as_stmts, as_int, as_cases, as_clauses, as_members, as_body, as_params}
+use Rattle.php_grammar.specs.Grammar.{operand, choose, production}
+use Rattle.php_grammar.specs.Values.{Core, constants_core, properties_core, function_core, Value, stmt_of, stmts_of, cases_of, clauses_of, members_of, body_of, if_parts, modded_of, begun_of, expr_of, as_token, as_stmt, as_stmts, as_int, as_cases, as_clauses, as_members, as_body, as_params}
 use Rattle.php_grammar.specs.Act.{act, link, nothing_of, one, arms_in, last_in, guarded_in, core_before, core_in, mods_in, line_in, jump, static_statement}
 use Rattle.php_grammar.specs.Reads.{Goal, part_of, seq, Reads, done, token, part, rule, alone, chain, peek}
 use Rattle.app_load.specs.declared.finding.Sort.TheVariants as sort
-use Rattle.app_load.specs.Findings as f
 use Rattle.app_load.specs.Findings.{Finding, leaves, declares, is_within, parameter, head, constant, property, findings, findings_in, arms_findings, cases_findings, clauses_findings, function_findings, members_findings}
 use Rattle.plain_names.specs.Words.{has_colon, ArePlain}
 

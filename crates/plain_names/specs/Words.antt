@@ -19,4 +19,3 @@ abbrev pub ArePlain : List Finding → Type 0
 ArePlain [] = ⊤
 ArePlain (leaves l ∷ fs) = ArePlain fs
 ArePlain (declares n ∷ fs) = IsPlain n.sort n × ArePlain fs
-
