@@ -23,7 +23,8 @@ use Rattle.app_load.specs.Twice.{first_twice, first_leaving}
 use Rattle.app_load.proofs.Bodies.{Bodies, named_alike, names_itself, AreOnce}
 use Rattle.app_load.proofs.PartsOf.{or_part, part_append, part_or_none, body_here, body_elsewhere, no_file}
 use Rattle.copy_laws.specs.Originals.{tree_findings, findings_or_none, PassRules}
-use Rattle.copy_laws.specs.Words.{ArePlain, FilesPlain}
+use Rattle.plain_names.specs.Words.{ArePlain}
+use Rattle.plain_names.proofs.Lexemes.{tree_plain}
 use Rattle.copy_laws.proofs.Once.{bodies_once}
 use Rattle.copy_laws.proofs.Renaming.{all_found}
 
@@ -35,19 +36,25 @@ PassesRules t = (first_twice (findings_or_none t) ≡ None) × (first_leaving (f
 same_findings : (t : FileTree) → tree_findings (tree_of t) ≡ file_findings t
 same_findings t = all_found (name_at t.variables) 0 (statements_of t.stmts)
 
+abbrev IsPassing : Option Tree → Type 0
+IsPassing t = PassesRules t × ArePlain (findings_or_none t)
+
 abbrev IfGood : Verdict → Type 0
-IfGood (good ss) = PassesRules (Some ss)
+IfGood (good ss) = IsPassing (Some ss)
 IfGood v = ⊤
 
 judged_passes : (setting : Setting) (path text : List ℕ) (v : Verdict) → Judged setting path text v → IfGood v
-judged_passes setting path text _ (fine {tree = tree} parsed once within) = (ap first_twice (same_findings tree) ∙ once, ap first_leaving (same_findings tree) ∙ within)
+judged_passes setting path text _ (fine {ms = ms} {tree = tree} parsed once within) = (
+  (ap first_twice (same_findings tree) ∙ once, ap first_leaving (same_findings tree) ∙ within),
+  subst ArePlain (sym (same_findings tree)) (tree_plain text ms tree parsed.read.tokens parsed.tree_of),
+)
 judged_passes setting path text _ _ = tt {0}
 
 -- ---- files
 
 record IsPassed (t : Text) (f : File) : Type 0 where
   path : f.path ≡ t.0
-  rules : PassesRules f.tree
+  passing : IsPassing f.tree
 
 abbrev ArePassed : List Text → List File → Type 0
 ArePassed [] [] = ⊤
@@ -66,9 +73,9 @@ with_one t f ts (strayed path l) p h = tt {0}
 files_passed : (setting : Setting) (ts : List Text) (o : Outcome) → FilesJudged setting ts o → IfAccepted ts o
 files_passed setting _ _ no_more = tt {0}
 files_passed setting _ _ (static {path = path} {text = text} {ts = ts} {o = o} e r) =
-    with_one (path, text) (record { path = path; text = text; tree = None }) ts o (record { path = refl; rules = (refl, refl) }) (files_passed setting ts o r)
+    with_one (path, text) (record { path = path; text = text; tree = None }) ts o (record { path = refl; passing = ((refl, refl), tt {0}) }) (files_passed setting ts o r)
 files_passed setting _ _ (php {path = path} {text = text} {tree = tree} {ts = ts} {o = o} e j r) =
-    with_one (path, text) (record { path = path; text = text; tree = Some tree }) ts o (record { path = refl; rules = judged_passes setting path text (good tree) j }) (files_passed setting ts o r)
+    with_one (path, text) (record { path = path; text = text; tree = Some tree }) ts o (record { path = refl; passing = judged_passes setting path text (good tree) j }) (files_passed setting ts o r)
 files_passed setting _ _ (php_bad e j) = tt {0}
 files_passed setting _ _ (php_stray e j) = tt {0}
 
@@ -96,9 +103,9 @@ bodies_stand : (path : List ℕ) (bs : Bodies) → AreOnce bs → StandOnce (map
 bodies_stand path [] o = tt {0}
 bodies_stand path ((m, b) ∷ bs) o = (body_here path path m bs (names_itself path) ∙ ap part_or_none o.0, bodies_stand path bs o.1)
 
-file_stands : (path : List ℕ) (t : Option Tree) → PassesRules t → ArePlain (findings_or_none t) → StandOnce (parts_or_none path t)
-file_stands path None r w = tt {0}
-file_stands path (Some ss) r w = (no_file path path (bodies_in ss), bodies_stand path (bodies_in ss) (bodies_once (λ name. name) ss r.0 w))
+file_stands : (path : List ℕ) (t : Option Tree) → IsPassing t → StandOnce (parts_or_none path t)
+file_stands path None r = tt {0}
+file_stands path (Some ss) r = (no_file path path (bodies_in ss), bodies_stand path (bodies_in ss) (bodies_once (λ name. name) ss r.0.0 r.1))
 
 -- ---- other files
 
@@ -147,21 +154,21 @@ others p (t ∷ ts) (g ∷ gs) passed below =
 others p [] (g ∷ gs) passed below = absurd passed
 others p (t ∷ ts) [] passed below = absurd passed
 
-files_stand : (ts : List Text) (gs : List File) → ArePassed ts gs → IsStrictlySortedBy (slice_cmp nat_cmp) (map (λ t. t.0) ts) → FilesPlain gs → StandOnce (parts gs)
+files_stand : (ts : List Text) (gs : List File) → ArePassed ts gs → IsStrictlySortedBy (slice_cmp nat_cmp) (map (λ t. t.0) ts) → StandOnce (parts gs)
 unfolding IsStrictlySortedBy
-files_stand [] [] passed sorted plain = tt {0}
-files_stand (t ∷ ts) (g ∷ gs) passed sorted plain =
-    stand_both (file_parts g) (parts gs) (file_stands g.path g.tree passed.0.rules plain.0) (files_stand ts gs passed.1 sorted.1 plain.1)
+files_stand [] [] passed sorted = tt {0}
+files_stand (t ∷ ts) (g ∷ gs) passed sorted =
+    stand_both (file_parts g) (parts gs) (file_stands g.path g.tree passed.0.passing) (files_stand ts gs passed.1 sorted.1)
     (file_absent g.path g.tree gs (subst (λ p. IsOther p gs) (sym passed.0.path) (others t.0 ts gs passed.1 sorted.0)))
-files_stand [] (g ∷ gs) passed sorted plain = absurd passed
-files_stand (t ∷ ts) [] passed sorted plain = absurd passed
+files_stand [] (g ∷ gs) passed sorted = absurd passed
+files_stand (t ∷ ts) [] passed sorted = absurd passed
 
-pub entries_once : (setting : Setting) (given : List (String Global × Vec ℕ Global)) (fs : List File) → IsOutcomeOf setting given (accepted fs) → FilesPlain fs → StandOnce (parts fs)
-entries_once setting given fs is plain = files_stand is.texts fs (outcome_passed setting is.texts (accepted fs) is.told) is.in_order.ascending plain
+pub entries_once : (setting : Setting) (given : List (String Global × Vec ℕ Global)) (fs : List File) → IsOutcomeOf setting given (accepted fs) → StandOnce (parts fs)
+entries_once setting given fs is = files_stand is.texts fs (outcome_passed setting is.texts (accepted fs) is.told) is.in_order.ascending
 
 rules_passed : (ts : List Text) (fs : List File) → ArePassed ts fs → PassRules fs
 rules_passed [] [] p = tt {0}
-rules_passed (t ∷ ts) (f ∷ fs) p = (p.0.rules, rules_passed ts fs p.1)
+rules_passed (t ∷ ts) (f ∷ fs) p = (p.0.passing.0, rules_passed ts fs p.1)
 rules_passed [] (f ∷ fs) p = absurd p
 rules_passed (t ∷ ts) [] p = absurd p
 

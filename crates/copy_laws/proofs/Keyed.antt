@@ -7,7 +7,7 @@ use Rattle.std.proofs.lemmas.Grind.{common_steps}
 use Rattle.php_tree.specs.Functions.{class_prefix}
 use Rattle.app_load.specs.declared.finding.Sort.TheVariants as sort
 use Rattle.app_load.specs.Twice.{key}
-use Rattle.copy_laws.specs.Words.{has_colon}
+use Rattle.plain_names.specs.Words.{has_colon}
 
 -- ---- colons
 

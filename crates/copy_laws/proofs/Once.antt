@@ -12,7 +12,7 @@ use Rattle.app_load.specs.Files.{Tree}
 use Rattle.app_load.specs.Findings.{Name, Finding, declares, leaves, jump, named, parameter, head, constant, property, findings, findings_in, arms_findings, cases_findings, clauses_findings, function_findings, members_findings}
 use Rattle.app_load.specs.Twice.{key, first_again, first_twice}
 use Rattle.app_load.proofs.Bodies.{Bodies, look, named_alike, names_itself, AreOnce}
-use Rattle.copy_laws.specs.Words.{ArePlain}
+use Rattle.plain_names.specs.Words.{ArePlain}
 use Rattle.copy_laws.proofs.Keyed.{keyed, or_true, function_keyed, method_keyed}
 
 -- the names of bodies are among those that are declared, in their order

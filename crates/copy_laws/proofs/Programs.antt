@@ -8,7 +8,6 @@ use Rattle.app_load.specs.Twice.{first_twice, first_leaving}
 use Rattle.copy_laws.specs.Exact.{FilesExact}
 use Rattle.copy_laws.specs.Originals.{kept_in, PassRules, MayBeApplication, AreOriginal}
 use Rattle.copy_laws.specs.Restored.{restored_files}
-use Rattle.copy_laws.specs.Words.{FilesPlain}
 use Rattle.copy_laws.proofs.Accepted.{entries_once, accepted_passes, accepted_few}
 use Rattle.copy_laws.proofs.Originals.{originals}
 use Rattle.copy_laws.proofs.Restoring.{files_free, found_or_none, files_counted}
@@ -20,8 +19,8 @@ rules_kept (g ∷ gs) r = ((ap first_twice (found_or_none g.tree) ∙ r.0.0, ap 
 abbrev Given : Type 0
 Given = List (String Global × Vec ℕ Global)
 
-pub program_originals : (given : Given) (gs : List File) → IsProgram given gs → FilesExact gs → FilesPlain gs → AreOriginal (kept_in gs) (restored_files gs) gs
-program_originals given gs is exact plain = originals gs exact (entries_once Copy given gs is plain)
+pub program_originals : (given : Given) (gs : List File) → IsProgram given gs → FilesExact gs → AreOriginal (kept_in gs) (restored_files gs) gs
+program_originals given gs is exact = originals gs exact (entries_once Copy given gs is)
 
 pub program_application : (given : Given) (gs : List File) → IsProgram given gs → MayBeApplication (restored_files gs)
 program_application given gs is = record {

@@ -1,4 +1,3 @@
 pub mod Restored
 pub mod Exact
 pub mod Originals
-pub mod Words

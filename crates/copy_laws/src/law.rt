@@ -9,7 +9,6 @@ ghost use Rattle.app_load.specs.Parts.{parts};
 ghost use Rattle.copy_laws.specs.Exact.{FilesExact};
 ghost use Rattle.copy_laws.specs.Originals.{AreOriginal, MayBeApplication, kept_in};
 ghost use Rattle.copy_laws.specs.Restored.{restored_files};
-ghost use Rattle.copy_laws.specs.Words.{FilesPlain};
 
 /// Files whose placeholders are exact, and in which no entry stands twice, are the copy of files without placeholders, for the
 /// entries at which they have none.
@@ -18,16 +17,15 @@ pub fn a_copy_has_an_original()
     ensures { (gs : List File) → FilesExact gs → StandOnce (parts gs) → AreOriginal (kept_in gs) (restored_files gs) gs }
 {}
 
-/// No entry of an accepted application or copy stands twice, where no colon stands in a name.
+/// No entry of an accepted application or copy stands twice.
 pub fn entries_stand_once()
     ensures { (setting : Setting) (given : List (String Global × Vec ℕ Global)) (fs : List File) →
-        IsOutcomeOf setting given (accepted fs) → FilesPlain fs → StandOnce (parts fs) }
+        IsOutcomeOf setting given (accepted fs) → StandOnce (parts fs) }
 {}
 
-/// An accepted copy is the copy of trees that an application may have, where its placeholders are exact and no colon stands in
-/// a name.
+/// An accepted copy is the copy of trees that an application may have, where its placeholders are exact.
 pub fn an_accepted_copy_has_an_original()
     ensures original { (given : List (String Global × Vec ℕ Global)) (gs : List File) →
-        IsProgram given gs → FilesExact gs → FilesPlain gs → AreOriginal (kept_in gs) (restored_files gs) gs }
+        IsProgram given gs → FilesExact gs → AreOriginal (kept_in gs) (restored_files gs) gs }
     ensures application { (given : List (String Global × Vec ℕ Global)) (gs : List File) → IsProgram given gs → MayBeApplication (restored_files gs) }
 {}

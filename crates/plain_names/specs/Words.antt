@@ -3,9 +3,7 @@
 use Rattle.std.specs.Prelude.{◌≡◌, ⊤, ℕ, ◌==◌, Bool, false, ◌||◌, List, [], ◌∷◌}
 use Rattle.app_load.specs.declared.finding.Sort.{Sort}
 use Rattle.app_load.specs.declared.finding.Sort.TheVariants as sort
-use Rattle.app_load.specs.Files.{File}
 use Rattle.app_load.specs.Findings.{Name, Finding, declares, leaves}
-use Rattle.copy_laws.specs.Originals.{findings_or_none}
 
 abbrev pub has_colon : List ℕ → Bool
 has_colon [] = false
@@ -21,8 +19,3 @@ abbrev pub ArePlain : List Finding → Type 0
 ArePlain [] = ⊤
 ArePlain (leaves l ∷ fs) = ArePlain fs
 ArePlain (declares n ∷ fs) = IsPlain n.sort n × ArePlain fs
-
--- the names in each file
-abbrev pub FilesPlain : List File → Type 0
-FilesPlain [] = ⊤
-FilesPlain (f ∷ fs) = ArePlain (findings_or_none f.tree) × FilesPlain fs
