@@ -1,4 +1,5 @@
 pub mod Restoring
+pub mod Flat
 pub mod Copying
 pub mod Originals
 pub mod Keyed

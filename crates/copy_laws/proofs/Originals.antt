@@ -14,6 +14,7 @@ use Rattle.copy_laws.specs.Exact.{IsExactOrNone, FilesExact}
 use Rattle.copy_laws.specs.Originals.{no_stub, kept_in, AreOriginal}
 use Rattle.copy_laws.specs.Restored.{restored_or_none, restored_files}
 use Rattle.copy_laws.proofs.Copying.{Fit, same_parts}
+use Rattle.copy_laws.proofs.Flat.{files_flat}
 use Rattle.copy_laws.proofs.Restoring.{files_free, files_found, files_spanned, files_counted}
 
 -- ---- what stands at an entry that stands once
@@ -83,4 +84,5 @@ originals gs exact once = record {
   findings = files_found gs;
   spans = files_spanned gs;
   functions = files_counted gs;
+  flat = files_flat gs;
 }

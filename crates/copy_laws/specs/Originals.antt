@@ -1,6 +1,7 @@
 -- Which files an accepted copy was taken from, and what was kept of them.
 use Rattle.std.specs.Prelude.{◌≡◌, ⊤, ℕ, ◌≤◌, Bool, true, false, List, [], ◌∷◌, map, Option, Some, None}
 use Rattle.php_tree.specs.Functions.{spans_in}
+use Rattle.php_tree.specs.Height.{statements_height}
 use Rattle.php_tree.specs.declared.file.Span.{Span}
 use Rattle.app_load.specs.Applications.{functions_of_all}
 use Rattle.app_load.specs.Copies.{IsCopyOf}
@@ -48,6 +49,17 @@ spans_or_none (Some ss) = spans_in ss
 abbrev pub all_spans : List File → List (List (List ℕ × Span))
 all_spans fs = map (λ f. spans_or_none f.tree) fs
 
+-- how many nodes stand over one another; see php_tree
+abbrev pub height_or_none : Option Tree → ℕ
+height_or_none None = 0
+height_or_none (Some ss) = statements_height ss
+
+-- each file's tree is at most as deep as that of the file in its place
+abbrev pub AreNoDeeper : List File → List File → Type 0
+AreNoDeeper [] [] = ⊤
+AreNoDeeper (f ∷ fs) (g ∷ gs) = (height_or_none f.tree ≤ height_or_none g.tree) × AreNoDeeper fs gs
+AreNoDeeper _ _ = ⊥
+
 -- no name is declared twice in a file, and no jump leaves more than there is around it
 abbrev pub PassRules : List File → Type 0
 PassRules [] = ⊤
@@ -62,10 +74,11 @@ pub record MayBeApplication (fs : List File) : Type 0 where
 -- ---- the original of a copy
 
 -- Files without placeholders of which others are the copy. They declare the same names and have the same jumps, so that a rule
--- which the copy passes is passed by them, and they have the same functions.
+-- which the copy passes is passed by them; they have the same functions, and are no deeper.
 pub record AreOriginal (keeps : Keeps) (fs gs : List File) : Type 0 where
   pub copied : IsCopyOf keeps fs gs
   pub free : FilesFree fs
   pub findings : all_findings fs ≡ all_findings gs
   pub spans : all_spans fs ≡ all_spans gs
   pub functions : functions_of_all fs ≡ functions_of_all gs
+  pub flat : AreNoDeeper fs gs
