@@ -1,6 +1,7 @@
 // What is run.
 
 use php_tables::PathTable;
+use php_tree::name::VarName;
 use php_tree::stmt::Stmt;
 use sqlite_items::Items;
 
@@ -17,4 +18,6 @@ pub struct Program {
     pub files: Items<ProgramFile>,
     /// The paths of the files, by their numbers.
     pub paths: PathTable,
+    /// The names of the variables of all files, by their numbers.
+    pub names: Items<VarName>,
 }

@@ -7,7 +7,7 @@ ghost use Rattle.php_state.specs.Views.{world_of};
 use crate::program::Program;
 use php_names::NameTable;
 use php_rest::Scene;
-use php_tables::{Entered, Functions};
+use php_tables::{Entered, Functions, PathTable};
 use php_values::Value;
 use php_world::Store;
 use sqlite_items::Items;
@@ -24,6 +24,8 @@ pub struct State<'a> {
     pub functions: Functions<'a>,
     pub constants: NameTable<Value>,
     pub entered: Entered<'a>,
+    /// The texts of the static variables that were used, by the numbers of their declarations.
+    pub statics: PathTable,
     /// How many bytes were put out.
     pub printed: usize,
     /// The path of the script that was asked for.
