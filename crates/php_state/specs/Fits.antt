@@ -9,3 +9,7 @@ use Rattle.php_state.specs.declared.state.State.{State}
 pub record Fits (t : Naming) (s : State) : Type 0 where
   pub names_are : (n : ℕ) (x : VarName) → slice_get s.program.now.names n ≡ Some x → t.name n ≡ x.text
   pub statics_are : (n : ℕ) (key : List ℕ) → slice_get s.statics n ≡ Some key → t.static n ≡ key
+
+-- what each step leaves: the program, and the texts of static variables, behind which others can come
+abbrev pub Keeps : State → State → Type 0
+Keeps old new = (new.program.now ≡ old.program.now) × ((n : ℕ) (key : List ℕ) → slice_get old.statics n ≡ Some key → slice_get new.statics n ≡ Some key)

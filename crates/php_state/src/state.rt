@@ -1,6 +1,7 @@
 // The state of a run.
 
 ghost use Rattle.php_world.specs.Naming.{Naming};
+ghost use Rattle.php_state.specs.Fits.{Keeps};
 ghost use Rattle.php_state.specs.Output.{Counts};
 ghost use Rattle.php_state.specs.Views.{world_of};
 
@@ -36,7 +37,8 @@ pub struct State<'a> {
 impl<'a> State<'a> {
     /// Counts bytes that are put out, where the output is not too long with them.
     pub fn count_output(&mut self, bytes: usize) -> bool
-        ensures { (t : Naming) → Counts bytes (world_of t self.old) (world_of t self.new) result }
+        ensures counts { (t : Naming) → Counts bytes (world_of t self.old) (world_of t self.new) result }
+        ensures keeps { Keeps self.old self.new }
     {
         if self.printed > MAX_OUTPUT || bytes > MAX_OUTPUT - self.printed {
             return false;
