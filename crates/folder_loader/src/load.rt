@@ -3,7 +3,7 @@ ghost use Rattle.std.specs.Prelude.{◌≡◌, IfOk, IfErr, IfSome};
 ghost use Rattle.less_outside.specs.Told.{Stays};
 ghost use Rattle.app_load.specs.Files.{files_of};
 ghost use Rattle.app_reading.specs.Texts.{HasReadCause};
-ghost use Rattle.folder_loader.specs.Folders.{IsApplicationIn, IsAppRefusalIn, IsProgramIn, IsCopyRefusalIn};
+ghost use Rattle.folder_loader.specs.Folders.{IsApplicationIn, IsSomeApplication, IsAppRefusalIn, IsProgramIn, IsSomeProgram, IsCopyRefusalIn};
 ghost use Rattle.folder_loader.specs.declared.fault.AppRefusal.TheVariants as app;
 ghost use Rattle.folder_loader.specs.declared.fault.CopyRefusal.TheVariants as copy;
 
@@ -20,6 +20,7 @@ use std::alloc::Global;
 /// written.
 pub fn load_app_in<F: Folder>(alloc: Global, folder: &mut F, below: &str) -> Result<App, AppRefusal>
     ensures app { IfOk result (λ app. IfSome (F.told folder.old) (λ files. IsApplicationIn below.now files (files_of app))) }
+    ensures accepted { IfOk result (λ app. IsSomeApplication (files_of app)) }
     ensures fault { IfErr result (λ refusal. IfSome (F.told folder.old) (λ files. IsAppRefusalIn below.now files refusal)) }
     ensures kept { Stays (F.told folder.old) (F.told folder.new) }
     ensures cause { HasReadCause app.ReadFault (F.read_count folder.old) (F.read_count folder.new) result }
@@ -51,6 +52,7 @@ pub fn load_copy_in<F: Folder>(
     below: &str,
 ) -> Result<Program, CopyRefusal>
     ensures program { IfOk result (λ program. IfSome (F.told folder.old) (λ files. IsProgramIn below.now files (files_of program))) }
+    ensures accepted { IfOk result (λ program. IsSomeProgram (files_of program)) }
     ensures fault { IfErr result (λ refusal. IfSome (F.told folder.old) (λ files. IsCopyRefusalIn below.now files refusal)) }
     ensures kept { Stays (F.told folder.old) (F.told folder.new) }
     ensures cause { HasReadCause copy.ReadFault (F.read_count folder.old) (F.read_count folder.new) result }

@@ -12,3 +12,6 @@ returns-in-Ok-load_app-clause-app g c = told_in Application (g.F.Folder.told c.a
 pub returns-in-Err-At-clause-fault : goal.returns-in-Err-At-clause-fault
 returns-in-Err-At-clause-fault g c =
     told_in Application (g.F.Folder.told c.args.folder.now) c.args.below.now c.in-Ok.texts.items _ (rw c.in-Err-At.field-0-is at c.in-Err-At.ensures.fault) c.in-Ok.ensures.texts
+
+pub returns-in-Ok-load_app-clause-accepted : goal.returns-in-Ok-load_app-clause-accepted
+returns-in-Ok-load_app-clause-accepted g c = (c.in-Ok.texts.items, c.in-Ok-load_app.ensures.app)

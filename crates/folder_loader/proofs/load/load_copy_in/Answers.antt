@@ -12,3 +12,6 @@ returns-in-Ok-load_copy-clause-program g c = told_in Copy (g.F.Folder.told c.arg
 pub returns-in-Err-At-clause-fault : goal.returns-in-Err-At-clause-fault
 returns-in-Err-At-clause-fault g c =
     copy_told (g.F.Folder.told c.args.folder.now) c.args.below.now c.in-Ok.texts.items c.in-Err-At.file c.in-Err-At.line c.in-Err-At.kind (rw c.in-Err-At.field-0-is at c.in-Err-At.ensures.fault) c.in-Ok.ensures.texts
+
+pub returns-in-Ok-load_copy-clause-accepted : goal.returns-in-Ok-load_copy-clause-accepted
+returns-in-Ok-load_copy-clause-accepted g c = (c.in-Ok.texts.items, c.in-Ok-load_copy.ensures.program)
