@@ -1,4 +1,3 @@
-use Rattle.std.proofs.Common.{◌∙◌}
 use Rattle.php_meaning.specs.Folders.{file_named}
 use Rattle.php_state.specs.Views.{world_of}
 use Rattle.php_include_steps.proofs.Files.{standing, numbered, unnumbered}
