@@ -10,7 +10,7 @@ use Rattle.php_grammar.specs.declared.part.Context.TheVariants.{InFull as in_ful
 use Rattle.php_grammar.specs.declared.part.Level.{Level}
 use Rattle.php_grammar.specs.declared.part.Level.TheVariants.{LowOr as low_or, LowXor as low_xor, LowAnd as low_and, Choice as choice, Coalescing as coalescing, Either as either, Both as both, Equality as equality, Order as order, Sum as sum, Product as product, Instance as instance}
 use Rattle.php_grammar.specs.declared.part.Part.{Part}
-use Rattle.php_grammar.specs.declared.part.Part.TheVariants.{Level as level, Operators as operators, PrintPart as print_part, NotPart as not_part, UnaryPart as unary_part, Prim as prim}
+use Rattle.php_grammar.specs.declared.part.Part.TheVariants.{Level as level, Operators as operators, UnaryPart as unary_part, Prim as prim}
 use Rattle.php_grammar.specs.declared.part.Rule.{Rule}
 use Rattle.php_grammar.specs.declared.part.Rule.TheVariants.{NoPrint as no_print, NoNot as no_not, NoUnary as no_unary}
 use Rattle.php_grammar.specs.declared.part.Symbol.TheVariants.{Sub as sub}
@@ -190,59 +190,6 @@ goes_at from top kind at e a b = record {
   quiet = λ l c d. other_quiet kind l at e (λ s. omega arith);
 }
 
--- ---- where an operand begins
-
-plain_by : (top l : Level) (kind : Kind) → (0 < rank top → choose not_part kind ≡ Some no_not) → (8 < rank top → choose print_part kind ≡ Some no_print) → rank l < rank top → Plain l kind
-plain_by top instance kind n p b = n b
-plain_by top product kind n p b = tt
-plain_by top sum kind n p b = tt
-plain_by top order kind n p b = tt
-plain_by top equality kind n p b = tt
-plain_by top both kind n p b = tt
-plain_by top either kind n p b = tt
-plain_by top coalescing kind n p b = tt
-plain_by top choice kind n p b = p b
-plain_by top low_and kind n p b = tt
-plain_by top low_xor kind n p b = tt
-plain_by top low_or kind n p b = tt
-
-pub begins_plain : (top : Level) (kind : Kind) → (0 < rank top → choose not_part kind ≡ Some no_not) → (8 < rank top → choose print_part kind ≡ Some no_print) → IsInmost top kind instance
-begins_plain top kind n p = record { within = omega arith; plain = λ l a b. plain_by top l kind n p b; same = refl }
-
-plain_not : (top l : Level) (kind : Kind) → choose print_part kind ≡ Some no_print → 1 ≤ rank l → Plain l kind
-plain_not top instance kind p a = absurd (omega arith)
-plain_not top product kind p a = tt
-plain_not top sum kind p a = tt
-plain_not top order kind p a = tt
-plain_not top equality kind p a = tt
-plain_not top both kind p a = tt
-plain_not top either kind p a = tt
-plain_not top coalescing kind p a = tt
-plain_not top choice kind p a = p
-plain_not top low_and kind p a = tt
-plain_not top low_xor kind p a = tt
-plain_not top low_or kind p a = tt
-
-pub begins_not : (top : Level) (kind : Kind) → 0 < rank top → choose print_part kind ≡ Some no_print → IsInmost top kind product
-begins_not top kind h p = record { within = omega arith; plain = λ l a b. plain_not top l kind p a; same = refl }
-
-plain_print : (l : Level) (kind : Kind) → 9 ≤ rank l → Plain l kind
-plain_print instance kind a = absurd (omega arith)
-plain_print product kind a = absurd (omega arith)
-plain_print sum kind a = absurd (omega arith)
-plain_print order kind a = absurd (omega arith)
-plain_print equality kind a = absurd (omega arith)
-plain_print both kind a = absurd (omega arith)
-plain_print either kind a = absurd (omega arith)
-plain_print coalescing kind a = absurd (omega arith)
-plain_print choice kind a = absurd (omega arith)
-plain_print low_and kind a = tt
-plain_print low_xor kind a = tt
-plain_print low_or kind a = tt
-
-pub begins_print : (top : Level) (kind : Kind) → 9 ≤ rank top → IsInmost top kind low_and
-begins_print top kind h = record { within = h; plain = λ l a b. plain_print l kind a; same = refl }
-
 -- ---- over a rule that is not seen
 
 plainly : {d low : ℕ} {a b : Part} (r : Rule) {ts rest : List Lexeme} {vs vs' : List Value}
@@ -372,15 +319,6 @@ pub record Outwards (d : ℕ) (top : Level) (ts : List Lexeme) (vs : List Value)
   pub plain : AllPlain l top (peek ts)
   pub read : HasRead d (inner l) ts vs low ts' vs'
   pub low_within : low ≤ d
-
-pub out_begins : {d : ℕ} {top : Level} {ts : List Lexeme} {vs : List Value} (l : Level) {low : ℕ} {ts' : List Lexeme} {vs' : List Value}
-    → IsInmost top (peek ts) l → HasRead d (beginning l) ts vs low ts' vs' → Outwards d top ts vs l low ts' vs'
-out_begins {d = d} {ts = ts} {vs = vs} l {low = low} {ts' = ts'} {vs' = vs'} i x = record {
-  within = i.within;
-  plain = i.plain;
-  read = subst (λ a. HasRead d a ts vs low ts' vs') (sym i.same) x;
-  low_within = let e = x.lowest in omega arith;
-}
 
 pub out_never : {d : ℕ} {top : Level} {ts : List Lexeme} {kind : Kind} (l : Level) (a : Part) {ts' : List Lexeme} (s : Stop)
     → kind ≡ peek ts → IsInmost top kind l → a ≡ beginning l → HasStopped d a ts s ts' → HasStopped d (level in_full top) ts s ts'
