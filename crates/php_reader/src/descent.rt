@@ -2,14 +2,17 @@
 
 ghost use Rattle.std.specs.Prelude.{◌≡◌, ◌<◌, [], ◌∷◌, IfOk, IfErr, OnOk, None, Some};
 ghost use Rattle.php_grammar.specs.Grammar as grammar;
+ghost use Rattle.php_grammar.specs.declared.part.Context.TheVariants as c;
+ghost use Rattle.php_grammar.specs.declared.part.Part.TheVariants as p;
 ghost use Rattle.php_reading.specs.Fronts.{front};
 ghost use Rattle.php_reading.specs.Reading.{HasRead, HasStopped, HasReadAll, HasStoppedIn};
 ghost use Rattle.php_reading.specs.Stack.{values_after, below};
 
+use crate::levels::{beginning, going_on, inmost, is_prefix, outer, rank};
 use crate::pieces::Pieces;
 use crate::reader::Reader;
 use php_grammar::choice::{choose, goes_on};
-use php_grammar::part::{Part, Rule, Symbol};
+use php_grammar::part::{Context, Level, Part, Rule, Symbol};
 use php_grammar::rules;
 use php_grammar::token::Fault;
 use php_reading::{Stop, Waiting};
@@ -22,10 +25,56 @@ impl<P: Pieces> Reader<P> {
         ensures err { IfErr result (λ stop. HasStopped budget part (P.left self.old.pieces) stop (P.left self.new.pieces)) }
         ensures waiting { OnOk result (self.new.waiting ≡ self.old.waiting) }
     {
+        if let Part::Level(Context::InFull, level) = part {
+            return self.read_full(level, budget);
+        }
         match rules::operand(part) {
             Some(first) => self.read_level(part, first, budget),
             None => self.read_ruled(part, budget),
         }
+    }
+
+    /// A level of operators of an expression: its first operand, read where its first token says, and what the levels
+    /// around that go on with.
+    #[cycle(part)]
+    fn read_full(&mut self, top: Level, budget: usize) -> Result<usize, Stop>
+        ensures ok { IfOk result (λ low. HasRead budget (p.Level c.InFull top) (P.left self.old.pieces) (P.values self.old.pieces) low (P.left self.new.pieces) (P.values self.new.pieces)) }
+        ensures err { IfErr result (λ stop. HasStopped budget (p.Level c.InFull top) (P.left self.old.pieces) stop (P.left self.new.pieces)) }
+        ensures waiting { OnOk result (self.new.waiting ≡ self.old.waiting) }
+    {
+        let mut level = inmost(top, self.pieces.peek());
+        let mut low = self.read_first(beginning(level), budget)?;
+        'outwards: loop {
+            let Some(at) = going_on(level, top, self.pieces.peek()) else {
+                return Ok(low);
+            };
+            if low == 0 {
+                return Err(Stop::At(Fault::Deep));
+            }
+            let lower = self.read(Part::Operators(Context::InFull, at), budget - 1)?;
+            self.pieces.join()?;
+            low = lower.min(low - 1);
+            if rank(at) == rank(top) {
+                return Ok(low);
+            }
+            level = outer(at);
+        }
+    }
+
+    /// What an operand begins with.
+    #[cycle(part)]
+    fn read_first(&mut self, part: Part, budget: usize) -> Result<usize, Stop>
+        requires { grammar.operand part ≡ None }
+        ensures ok { IfOk result (λ low. HasRead budget part (P.left self.old.pieces) (P.values self.old.pieces) low (P.left self.new.pieces) (P.values self.new.pieces)) }
+        ensures err { IfErr result (λ stop. HasStopped budget part (P.left self.old.pieces) stop (P.left self.new.pieces)) }
+        ensures waiting { OnOk result (self.new.waiting ≡ self.old.waiting) }
+    {
+        if let Part::UnaryPart = part {
+            if !is_prefix(self.pieces.peek()) {
+                return self.read_ruled(Part::Prim(true), budget);
+            }
+        }
+        self.read_ruled(part, budget)
     }
 
     /// A level of operators: its first operand, and what it goes on with.
@@ -84,8 +133,8 @@ impl<P: Pieces> Reader<P> {
                 return Ok(lowest);
             };
             self.waiting.push(Waiting::Tail(rule))?;
-            if let Some(first) = rules::operand(last) {
-                return Ok(self.read_level(last, first, budget)?.min(lowest));
+            if let Some(_) = rules::operand(last) {
+                return Ok(self.read(last, budget)?.min(lowest));
             }
             part = last;
         }

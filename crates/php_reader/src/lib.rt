@@ -3,6 +3,7 @@
 
 mod descent;
 pub mod file;
+mod levels;
 pub mod pieces;
 mod reader;
 
