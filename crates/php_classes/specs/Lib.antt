@@ -1,0 +1,3 @@
+pub mod Members
+pub mod Ancestors
+pub mod LookUp

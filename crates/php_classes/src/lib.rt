@@ -1,0 +1,12 @@
+//! The classes of a program: what is declared, where a member's first declaration stands, and who may see it.
+#![tactic(auto)]
+
+mod class;
+mod fault;
+mod lineage;
+mod look_up;
+mod members;
+
+pub use class::{ClassEntry, Lineage, MemberEntry, MemberKind, MemberRef};
+pub use fault::ClassFault;
+pub use members::MemberList;
