@@ -1,2 +1,3 @@
 pub mod Lineages
 pub mod Firsts
+pub mod Behind

@@ -1,3 +1,6 @@
 pub mod Members
 pub mod Ancestors
 pub mod LookUp
+pub mod Entries
+pub mod Declaring
+pub mod Tables

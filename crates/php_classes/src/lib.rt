@@ -2,10 +2,12 @@
 #![tactic(auto)]
 
 mod class;
+mod entries;
 mod fault;
 mod lineage;
 mod look_up;
 mod members;
+mod refuse;
 
 pub use class::{ClassEntry, Lineage, MemberEntry, MemberKind, MemberRef};
 pub use fault::ClassFault;

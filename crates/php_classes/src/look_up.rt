@@ -50,8 +50,23 @@ fn first_among(
     None
 }
 
-/// The first declaration of a name among the ancestors of a class.
+/// The first declaration of a name among these ancestors.
 #[tactic(auto, using(crate::proofs::Firsts::first_of_two))]
+pub fn first_in(
+    classes: &[ClassEntry],
+    lineage: &Lineage,
+    kind: MemberKind,
+    name: &[u8],
+) -> Option<MemberRef>
+    ensures { result ≡ first_among classes.now kind name.now (all_of lineage.now) }
+{
+    match first_among(classes, kind, name, lineage.classes.as_slice()) {
+        Some(place) => Some(place),
+        None => first_among(classes, kind, name, lineage.interfaces.as_slice()),
+    }
+}
+
+/// The first declaration of a name among the ancestors of a class.
 pub fn first_declaration(
     classes: &[ClassEntry],
     lineages: &[Lineage],
@@ -61,10 +76,9 @@ pub fn first_declaration(
 ) -> Option<MemberRef>
     ensures { result ≡ first_among classes.now kind name.now (all_of (lineage_at lineages.now class)) }
 {
-    let lineage = at(lineages, class as usize)?;
-    match first_among(classes, kind, name, lineage.classes.as_slice()) {
-        Some(place) => Some(place),
-        None => first_among(classes, kind, name, lineage.interfaces.as_slice()),
+    match at(lineages, class as usize) {
+        Some(lineage) => first_in(classes, lineage, kind, name),
+        None => None,
     }
 }
 

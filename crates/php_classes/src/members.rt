@@ -26,7 +26,7 @@ impl Model for MemberList {
     ghost invariant = { λ list. length list.items.items < 2 ^ 32 };
 }
 
-fn is_same_kind(one: MemberKind, other: MemberKind) -> bool
+pub fn is_same_kind(one: MemberKind, other: MemberKind) -> bool
     ensures { result ≡ same_kind one other }
 {
     match (one, other) {
