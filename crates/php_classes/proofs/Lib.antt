@@ -1,3 +1,4 @@
 pub mod Lineages
 pub mod Firsts
 pub mod Behind
+pub mod Kept

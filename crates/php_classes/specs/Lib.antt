@@ -4,3 +4,4 @@ pub mod LookUp
 pub mod Entries
 pub mod Declaring
 pub mod Tables
+pub mod BuiltIn

@@ -8,7 +8,9 @@ mod lineage;
 mod look_up;
 mod members;
 mod refuse;
+mod table;
 
 pub use class::{ClassEntry, Lineage, MemberEntry, MemberKind, MemberRef};
 pub use fault::ClassFault;
 pub use members::MemberList;
+pub use table::ClassTable;
