@@ -15,3 +15,11 @@ goes_on a b x r w e f = in_front a b x r e ∙ f
 
 pub method_named : (f : FunDecl) → function_name (function_of f) ≡ (out-FunDecl f).name
 method_named f = ap function_name (function_of-out f)
+
+-- four elements, one behind the other
+pub four : {A : Type 0} (a b c d e : List A) (w x y z : A) → b ≡ a ++ w ∷ [] → c ≡ b ++ x ∷ [] → d ≡ c ++ y ∷ [] → e ≡ d ++ z ∷ [] →
+    e ≡ a ++ w ∷ x ∷ y ∷ z ∷ []
+four a b c d e w x y z first second third fourth =
+    let two : c ≡ a ++ w ∷ x ∷ [] = second ∙ in_front a b (w ∷ []) (x ∷ []) first in
+    let three : d ≡ a ++ w ∷ x ∷ y ∷ [] = third ∙ in_front a c (w ∷ x ∷ []) (y ∷ []) two in
+    fourth ∙ in_front a d (w ∷ x ∷ y ∷ []) (z ∷ []) three

@@ -2,3 +2,4 @@ pub mod Lineages
 pub mod Firsts
 pub mod Behind
 pub mod Kept
+pub mod Declared

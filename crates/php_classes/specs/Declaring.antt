@@ -50,12 +50,12 @@ names_earlier number (c ∷ cs) = names_below number c && names_earlier (number 
 -- ---- what is added
 
 abbrev pub entry_of : {V : Type 0} → List ClassEntry → Class V → ClassEntry
-entry_of classes (with_members kind name parent interfaces members line) = record {
+entry_of classes (with_members kind name parent interfaces ms line) = record {
   kind = kind;
   name = name.text;
   parent = parent_number classes parent;
   interfaces = numbers_of classes interfaces;
-  members = entries_of members;
+  members = entries_of ms;
 }
 
 -- ---- members that may not be declared again
@@ -121,8 +121,8 @@ lacks_body classes c =
 
 -- the name, then a member, then the parent or an interface, then a body
 abbrev pub refusal : {V : Type 0} → List ClassEntry → Class V → Option ClassFault
-refusal classes (with_members kind name parent interfaces members line) =
-    let c = entry_of classes (with_members kind name parent interfaces members line) in
+refusal classes (with_members kind name parent interfaces ms line) =
+    let c = entry_of classes (with_members kind name parent interfaces ms line) in
     if is_some (class_named name.text classes) then Some Redeclared else
     (if declares_again classes (lineages_of classes) c then Some Redeclared else
     (if not (list_all (is_declared classes) (option_to_list parent ++ interfaces)) then Some Unknown else

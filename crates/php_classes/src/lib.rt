@@ -1,7 +1,9 @@
 //! The classes of a program: what is declared, where a member's first declaration stands, and who may see it.
 #![tactic(auto)]
 
+mod built_in;
 mod class;
+mod declare;
 mod entries;
 mod fault;
 mod lineage;

@@ -2,15 +2,15 @@
 
 ghost use Rattle.std.specs.Prelude.{◌≡◌, ◌≢◌, ◌<◌, ◌&&◌, ◌++◌, ◌∷◌, [], length, true, false, slice_get, Ok, Err, IfSome, IfOk, IfErr, OnOk, OnErr};
 ghost use Rattle.std.specs.Option.{option_copied};
-ghost use Rattle.php_classes.specs.Ancestors.{all_of, is_instance};
+ghost use Rattle.php_classes.specs.Ancestors.{all_of, lineages_of, is_instance};
 ghost use Rattle.php_classes.specs.LookUp.{looked_up, constant_at, first_declaration};
-ghost use Rattle.php_classes.specs.Declaring.{class_named, names_below, is_concrete, lacks_among, lacks_body};
+ghost use Rattle.php_classes.specs.Declaring.{class_named, names_below, is_concrete, lacks_among, lacks_body, declares_again};
 
 use crate::class::{ClassEntry, Lineage, MemberKind, MemberRef};
 use crate::fault::ClassFault;
 use crate::lineage::{descends, lineage_of};
 use crate::look_up::{first_declaration, seen};
-use crate::refuse::{is_concrete, lacks_among};
+use crate::refuse::{declares_again, is_concrete, lacks_among};
 use php_names::is_word;
 use php_tree::decl::ClassKind;
 use sqlite_items::at;
@@ -117,6 +117,13 @@ impl ClassTable {
         ensures { result ≡ is_instance self.now class other }
     {
         descends(self.lineages.as_slice(), class, other)
+    }
+
+    /// Whether a class declares again what an ancestor of it does not leave to it.
+    pub(crate) fn is_declared_again(&self, class: &ClassEntry) -> bool
+        ensures { result ≡ declares_again self.now (lineages_of self.now) class.now }
+    {
+        declares_again(self.classes.as_slice(), self.lineages.as_slice(), class)
     }
 
     fn look_up(
