@@ -58,15 +58,15 @@ built_on_earlier classes (with_members kind name parent interfaces ms line) =
 
 pub refusal_opened : (classes : List ClassEntry) (d : ClassDecl) →
     refusal classes (class_of d) ≡
-      (if is_declared classes (out-ClassDecl d).name then Some Redeclared else
-      (if declares_again classes (lineages_of classes) (entry_of classes (class_of d)) then Some Redeclared else
-      (if not (list_all (is_declared classes) (option_to_list (out-ClassDecl d).parent ++ (out-ClassDecl d).interfaces)) then Some Unknown else
-      (if lacks_body classes (entry_of classes (class_of d)) then Some Abstract else None))))
+    (if is_declared classes (out-ClassDecl d).name then Some Redeclared else
+    (if declares_again classes (lineages_of classes) (entry_of classes (class_of d)) then Some Redeclared else
+    (if not (list_all (is_declared classes) (option_to_list (out-ClassDecl d).parent ++ (out-ClassDecl d).interfaces)) then Some Unknown else
+    (if lacks_body classes (entry_of classes (class_of d)) then Some Abstract else None))))
 refusal_opened classes d =
     ap (refusal classes) (class_of-out d)
     ∙ ap (λ c.
-      if is_declared classes (out-ClassDecl d).name then Some Redeclared else
-      (if declares_again classes (lineages_of classes) (entry_of classes c) then Some Redeclared else
-      (if not (list_all (is_declared classes) (option_to_list (out-ClassDecl d).parent ++ (out-ClassDecl d).interfaces)) then Some Unknown else
-      (if lacks_body classes (entry_of classes c) then Some Abstract else None))))
-      (sym (class_of-out d))
+    if is_declared classes (out-ClassDecl d).name then Some Redeclared else
+    (if declares_again classes (lineages_of classes) (entry_of classes c) then Some Redeclared else
+    (if not (list_all (is_declared classes) (option_to_list (out-ClassDecl d).parent ++ (out-ClassDecl d).interfaces)) then Some Unknown else
+    (if lacks_body classes (entry_of classes c) then Some Abstract else None))))
+    (sym (class_of-out d))

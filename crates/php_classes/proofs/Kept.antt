@@ -43,7 +43,7 @@ pub kept_more : (classes : List ClassEntry) (lineages : List Lineage) (c : Class
     more ≡ classes ++ c ∷ [] → longer ≡ lineages ++ l ∷ [] → IsKept more longer
 kept_more classes lineages c l value more longer kept view few below is more_is longer_is =
     let a : lineages ++ l ∷ [] ≡ lineages_of (classes ++ c ∷ []) =
-      (λ i. kept.lineages_are i ++ (is ∙ ap (λ ls. lineage_of ls c) kept.lineages_are) i ∷ []) ∙ sym (lineages_more [] classes c) in
+    (λ i. kept.lineages_are i ++ (is ∙ ap (λ ls. lineage_of ls c) kept.lineages_are) i ∷ []) ∙ sym (lineages_more [] classes c) in
     let n = length_push classes c in
     let m : length more ≡ length (classes ++ c ∷ []) = ap length more_is in
     let z : 0 + length classes ≡ length value = omega (arith, ap length view) in
@@ -63,7 +63,7 @@ pub last_lineage : (classes : List ClassEntry) (lineages : List Lineage) (c : Cl
 last_lineage classes lineages c kept =
     let n = length_lineages classes lineages kept in
     let e : lineages_of (classes ++ c ∷ []) ≡ lineages ++ lineage_of lineages c ∷ [] =
-      lineages_more [] classes c ∙ ap (λ ls. ls ++ lineage_of ls c ∷ []) (sym kept.lineages_are) in
+    lineages_more [] classes c ∙ ap (λ ls. ls ++ lineage_of ls c ∷ []) (sym kept.lineages_are) in
     (λ i. lineage_at (e i) (n i)) ∙ ap (λ o. unwrap_or o no_lineage) (slice_get_last lineages (lineage_of lineages c))
 
 -- whether the class that was added last lacks a body

@@ -3,3 +3,4 @@ pub mod Firsts
 pub mod Behind
 pub mod Kept
 pub mod Declared
+pub mod Places

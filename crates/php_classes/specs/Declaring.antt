@@ -38,6 +38,10 @@ numbers_of classes (name ∷ names) = option_to_list (class_named name.text clas
 abbrev pub is_declared : List ClassEntry → ClassName → Bool
 is_declared classes name = is_some (class_named name.text classes)
 
+abbrev pub parent_in : Option ClassEntry → Option ℕ
+parent_in None = None
+parent_in (Some c) = c.parent
+
 -- the classes that a class names have numbers below this one
 abbrev pub names_below : ℕ → ClassEntry → Bool
 names_below number c = list_all (λ n. nat_lt n number) (option_to_list c.parent ++ c.interfaces)

@@ -1,5 +1,5 @@
 -- Where a member is declared, and who may see it.
-use Rattle.std.specs.Prelude.{ℕ, Bool, true, false, ◌==◌, ◌||◌, if◌then◌else◌, List, [], ◌∷◌, slice_get, Option, Some, None, Result, Ok, Err}
+use Rattle.std.specs.Prelude.{ℕ, ◌<◌, length, Bool, true, false, ◌==◌, ◌||◌, if◌then◌else◌, List, [], ◌∷◌, slice_get, Option, Some, None, Result, Ok, Err}
 use Rattle.std.specs.List.{position}
 use Rattle.php_tree.specs.declared.decl.Visibility.{Visibility}
 use Rattle.php_tree.specs.declared.decl.Visibility.TheVariants.{Public, Protected, Private}
@@ -66,3 +66,8 @@ looked_up classes kind class name scope = seen classes (lineages_of classes) sco
 abbrev pub constant_at : Option MemberRef → Result MemberRef ClassFault
 constant_at None = Err Unknown
 constant_at (Some place) = Ok place
+
+-- the number of a class of the table, and a place among the names that it declares
+pub record IsPlace (classes : List ClassEntry) (place : MemberRef) : Type 0 where
+  pub class : place.class < length classes
+  pub member : place.member < length (members_at classes place.class)

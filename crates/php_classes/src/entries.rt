@@ -88,11 +88,7 @@ fn add_method(
     Ok(())
 }
 
-fn add_member(
-    alloc: Global,
-    entries: &mut MemberList,
-    member: &Member,
-) -> Result<(), AllocError>
+fn add_member(alloc: Global, entries: &mut MemberList, member: &Member) -> Result<(), AllocError>
     ensures { OnOk result ((rest : Members ℕ) → entries.new ++ entries_of rest ≡ entries.old ++ entries_of (tree.member_of member.now rest)) }
 {
     match member {

@@ -11,6 +11,8 @@ mod look_up;
 mod members;
 mod refuse;
 mod table;
+#[cfg(test)]
+mod tests;
 
 pub use class::{ClassEntry, Lineage, MemberEntry, MemberKind, MemberRef};
 pub use fault::ClassFault;

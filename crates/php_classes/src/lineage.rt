@@ -63,8 +63,9 @@ fn add_parent(
     parent: Option<u32>,
 ) -> Result<Lineage, AllocError>
     ensures { IfOk result (λ lineage. lineage ≡ record {
-        classes = own.classes ++ (parent_lineage lineages.now parent).classes;
-        interfaces = merged own.interfaces (parent_lineage lineages.now parent).interfaces }) }
+      classes = own.classes ++ (parent_lineage lineages.now parent).classes;
+      interfaces = merged own.interfaces (parent_lineage lineages.now parent).interfaces;
+    }) }
 {
     let Some(parent) = parent else {
         return Ok(own);

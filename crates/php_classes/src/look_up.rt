@@ -4,7 +4,7 @@ ghost use Rattle.std.specs.Prelude.{◌≡◌};
 ghost use Rattle.std.specs.List.{position};
 ghost use Rattle.php_classes.specs.Members.{is_named};
 ghost use Rattle.php_classes.specs.Ancestors.{all_of, lineage_at};
-ghost use Rattle.php_classes.specs.LookUp.{members_at, first_among, visibility_at, is_visible, seen};
+ghost use Rattle.php_classes.specs.LookUp.{members_at, first_among, visibility_at, is_visible, seen, constant_at};
 
 use crate::class::{ClassEntry, Lineage, MemberEntry, MemberKind, MemberRef};
 use crate::fault::ClassFault;
@@ -125,5 +125,15 @@ pub fn seen(
         Ok(place)
     } else {
         Err(ClassFault::Hidden)
+    }
+}
+
+/// A first declaration of a constant, which everyone sees.
+pub fn constant_at(first: Option<MemberRef>) -> Result<MemberRef, ClassFault>
+    ensures { result ≡ constant_at first }
+{
+    match first {
+        Some(place) => Ok(place),
+        None => Err(ClassFault::Unknown),
     }
 }

@@ -1,13 +1,13 @@
 // The names that a class declares.
 
+ghost use Rattle.std.specs.Prelude.{◌≡◌, [], ◌∷◌, ◌++◌, OnOk, OnErr};
+ghost use Rattle.std.specs.List.{position};
+ghost use Rattle.php_classes.specs.Members.{same_kind, same_name, is_named};
+
 use crate::class::{MemberEntry, MemberKind};
 use php_names::is_word;
 use std::alloc::{AllocError, Global};
 use std::marker::Model;
-
-ghost use Rattle.std.specs.Prelude.{◌≡◌, [], ◌∷◌, ◌++◌, OnOk, OnErr};
-ghost use Rattle.std.specs.List.{position};
-ghost use Rattle.php_classes.specs.Members.{same_kind, same_name, is_named};
 
 /// The names that a class declares, fewer than 2^32. Contracts see them as a list, in text order.
 #[derive(Drop)]

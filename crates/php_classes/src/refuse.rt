@@ -108,12 +108,7 @@ fn is_bodiless(classes: &[ClassEntry], lineage: &Lineage, member: &MemberEntry) 
     if !is_same_kind(MemberKind::Method, member.kind) {
         return false;
     }
-    let first = first_in(
-        classes,
-        lineage,
-        MemberKind::Method,
-        member.name.as_slice(),
-    );
+    let first = first_in(classes, lineage, MemberKind::Method, member.name.as_slice());
     !has_body_at(classes, first)
 }
 

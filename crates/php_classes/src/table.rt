@@ -3,13 +3,13 @@
 ghost use Rattle.std.specs.Prelude.{◌≡◌, ◌≢◌, ◌<◌, ◌&&◌, ◌++◌, ◌∷◌, [], length, true, false, slice_get, Ok, Err, IfSome, IfOk, IfErr, OnOk, OnErr};
 ghost use Rattle.std.specs.Option.{option_copied};
 ghost use Rattle.php_classes.specs.Ancestors.{all_of, lineages_of, is_instance};
-ghost use Rattle.php_classes.specs.LookUp.{looked_up, constant_at, first_declaration};
-ghost use Rattle.php_classes.specs.Declaring.{class_named, names_below, is_concrete, lacks_among, lacks_body, declares_again};
+ghost use Rattle.php_classes.specs.LookUp.{looked_up, constant_at, first_declaration, IsPlace};
+ghost use Rattle.php_classes.specs.Declaring.{class_named, names_below, is_concrete, lacks_among, lacks_body, declares_again, parent_in};
 
 use crate::class::{ClassEntry, Lineage, MemberKind, MemberRef};
 use crate::fault::ClassFault;
 use crate::lineage::{descends, lineage_of};
-use crate::look_up::{first_declaration, seen};
+use crate::look_up::{constant_at, first_declaration, seen};
 use crate::refuse::{declares_again, is_concrete, lacks_among};
 use php_names::is_word;
 use php_tree::decl::ClassKind;
@@ -45,6 +45,15 @@ fn place_of(classes: &[ClassEntry], name: &[u8]) -> Option<usize>
         .position(|class| is_word(name, class.name.as_slice()))
 }
 
+fn parent_at(classes: &[ClassEntry], class: u32) -> Option<u32>
+    ensures { result ≡ parent_in (slice_get classes.now class) }
+{
+    match at(classes, class as usize) {
+        Some(class) => class.parent,
+        None => None,
+    }
+}
+
 // Whether a class of this kind lacks a body.
 fn is_unfinished(classes: &[ClassEntry], kind: ClassKind, lineage: &Lineage) -> bool
     ensures { result ≡ (is_concrete kind && lacks_among classes.now (all_of lineage.now)) }
@@ -77,12 +86,7 @@ impl ClassTable {
         if number >= 4_294_967_295 {
             return Err(ClassFault::Memory);
         }
-        let lineage = lineage_of(
-            alloc,
-            self.lineages.as_slice(),
-            number as u32,
-            &class,
-        )?;
+        let lineage = lineage_of(alloc, self.lineages.as_slice(), number as u32, &class)?;
         let kind = class.kind;
         self.classes.push(class)?;
         if is_unfinished(self.classes.as_slice(), kind, &lineage) {
@@ -112,6 +116,14 @@ impl ClassTable {
         Some(number as u32)
     }
 
+    /// The number of the class that a class extends, which is lower than its own.
+    pub fn parent(&self, class: u32) -> Option<u32>
+        ensures parent { result ≡ parent_in (slice_get self.now class) }
+        ensures earlier { IfSome result (λ parent. parent < class) }
+    {
+        parent_at(self.classes.as_slice(), class)
+    }
+
     /// Whether a class is another or descends from it. It takes no memory.
     pub fn instance_of(&self, class: u32, other: u32) -> bool
         ensures { result ≡ is_instance self.now class other }
@@ -126,6 +138,7 @@ impl ClassTable {
         declares_again(self.classes.as_slice(), self.lineages.as_slice(), class)
     }
 
+    #[tactic(auto, using(crate::proofs::Places::seen_within))]
     fn look_up(
         &self,
         kind: MemberKind,
@@ -133,7 +146,8 @@ impl ClassTable {
         name: &[u8],
         scope: Option<u32>,
     ) -> Result<MemberRef, ClassFault>
-        ensures { result ≡ looked_up self.now kind class name.now scope }
+        ensures value { result ≡ looked_up self.now kind class name.now scope }
+        ensures within { IfOk result (λ place. IsPlace self.now place) }
     {
         let classes = self.classes.as_slice();
         let lineages = self.lineages.as_slice();
@@ -148,7 +162,8 @@ impl ClassTable {
         name: &[u8],
         scope: Option<u32>,
     ) -> Result<MemberRef, ClassFault>
-        ensures { result ≡ looked_up self.now MemberKind.Method class name.now scope }
+        ensures value { result ≡ looked_up self.now MemberKind.Method class name.now scope }
+        ensures within { IfOk result (λ place. IsPlace self.now place) }
     {
         self.look_up(MemberKind::Method, class, name, scope)
     }
@@ -160,7 +175,8 @@ impl ClassTable {
         name: &[u8],
         scope: Option<u32>,
     ) -> Result<MemberRef, ClassFault>
-        ensures { result ≡ looked_up self.now MemberKind.StaticProperty class name.now scope }
+        ensures value { result ≡ looked_up self.now MemberKind.StaticProperty class name.now scope }
+        ensures within { IfOk result (λ place. IsPlace self.now place) }
     {
         self.look_up(MemberKind::StaticProperty, class, name, scope)
     }
@@ -173,20 +189,21 @@ impl ClassTable {
         name: &[u8],
         scope: Option<u32>,
     ) -> Result<MemberRef, ClassFault>
-        ensures { result ≡ looked_up self.now MemberKind.Property class name.now scope }
+        ensures value { result ≡ looked_up self.now MemberKind.Property class name.now scope }
+        ensures within { IfOk result (λ place. IsPlace self.now place) }
     {
         self.look_up(MemberKind::Property, class, name, scope)
     }
 
     /// A constant of a class. It takes no memory.
+    #[tactic(auto, using(crate::proofs::Places::constant_within))]
     pub fn constant(&self, class: u32, name: &[u8]) -> Result<MemberRef, ClassFault>
-        ensures { result ≡ constant_at (first_declaration self.now MemberKind.Constant class name.now) }
+        ensures value { result ≡ constant_at (first_declaration self.now MemberKind.Constant class name.now) }
+        ensures within { IfOk result (λ place. IsPlace self.now place) }
     {
         let classes = self.classes.as_slice();
         let lineages = self.lineages.as_slice();
-        match first_declaration(classes, lineages, MemberKind::Constant, class, name) {
-            Some(place) => Ok(place),
-            None => Err(ClassFault::Unknown),
-        }
+        let first = first_declaration(classes, lineages, MemberKind::Constant, class, name);
+        constant_at(first)
     }
 }
