@@ -1,19 +1,17 @@
 -- What is found stands in the table.
-use Rattle.std.proofs.Common.{◌≡◌, ℕ, zero, suc, ◌+◌, ◌<◌, Bool, true, false, ◌&&◌, cond, nat_lt, List, [], ◌∷◌, ◌++◌, length, slice_get, Option, Some, None, Result, Ok, Err, IfSome, IfOk, if◌then◌else◌, refl, sym, ap, ◌∙◌, subst, arith}
+use Rattle.std.proofs.Common.{◌≡◌, ℕ, zero, suc, ◌+◌, ◌<◌, Bool, true, false, ◌&&◌, nat_lt, List, [], ◌∷◌, ◌++◌, length, slice_get, Option, Some, None, Result, Ok, Err, IfSome, IfOk, if◌then◌else◌, refl, sym, ap, ◌∙◌, subst, arith}
 use Rattle.std.specs.Option.{option_to_list}
 use Rattle.std.specs.List.{position, position_or_len, list_all}
 use Rattle.std.proofs.lemmas.Option.{cond_some}
 use borrow.Author.Tests.{ltb-true}
-use Rattle.php_tree.specs.declared.decl.Visibility.{Visibility}
 use Rattle.php_classes.specs.declared.class.ClassEntry.{ClassEntry}
 use Rattle.php_classes.specs.declared.class.Lineage.{Lineage}
 use Rattle.php_classes.specs.declared.class.MemberKind.{MemberKind}
 use Rattle.php_classes.specs.declared.class.MemberRef.{MemberRef}
 use Rattle.php_classes.specs.declared.fault.ClassFault.{ClassFault}
-use Rattle.php_classes.specs.declared.fault.ClassFault.TheVariants.{Unknown, Hidden}
+use Rattle.php_classes.specs.declared.fault.ClassFault.TheVariants.{Hidden}
 use Rattle.php_classes.specs.Members.{is_named}
-use Rattle.php_classes.specs.Ancestors.{ancestors}
-use Rattle.php_classes.specs.LookUp.{members_at, or_further, first_among, first_declaration, is_visible, visibility_at, seen, constant_at, IsPlace}
+use Rattle.php_classes.specs.LookUp.{members_at, or_further, first_among, is_visible, visibility_at, seen, constant_at, IsPlace}
 use Rattle.php_classes.specs.Declaring.{names_below, names_earlier, parent_in}
 use Rattle.php_classes.specs.Tables.{IsKept}
 

@@ -1,5 +1,5 @@
 -- The classes that are there from the start: the throwables.
-use Rattle.std.specs.Prelude.{ℕ, Bool, true, false, List, [], ◌∷◌, map, codes, Option, Some, None}
+use Rattle.std.specs.Prelude.{ℕ, Bool, true, false, List, [], ◌∷◌, map, codes, Some, None}
 use Rattle.php_tree.specs.declared.decl.ClassKind.TheVariants.{Plain, Interface}
 use Rattle.php_tree.specs.declared.decl.Visibility.TheVariants.{Public}
 use Rattle.php_classes.specs.declared.class.ClassEntry.{ClassEntry}

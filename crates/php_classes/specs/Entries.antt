@@ -1,5 +1,5 @@
 -- The names that a declaration of a class declares, in text order.
-use Rattle.std.specs.Prelude.{ℕ, Bool, true, false, if◌then◌else◌, List, [], ◌∷◌, ◌++◌, map, Option}
+use Rattle.std.specs.Prelude.{Bool, true, false, if◌then◌else◌, List, [], ◌∷◌, ◌++◌, map, Option}
 use Rattle.std.specs.Option.{unwrap_or}
 use Rattle.php_tree.specs.declared.name.FunName.{FunName}
 use Rattle.php_tree.specs.declared.name.MemberName.{MemberName}

@@ -1,5 +1,5 @@
 -- The names that classes declare.
-use Rattle.std.specs.Prelude.{◌≡◌, ℕ, Bool, true, false, ◌&&◌, List}
+use Rattle.std.specs.Prelude.{ℕ, Bool, true, false, ◌&&◌, List}
 use Rattle.std.specs.Str.{bytes_eq, str_to_ascii_lowercase}
 use Rattle.php_classes.specs.declared.class.MemberEntry.{MemberEntry}
 use Rattle.php_classes.specs.declared.class.MemberKind.{MemberKind}

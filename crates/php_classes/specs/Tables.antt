@@ -1,5 +1,5 @@
 -- What a table keeps.
-use Rattle.std.specs.Prelude.{◌≡◌, ℕ, ◌<◌, ◌^◌, true, List, length}
+use Rattle.std.specs.Prelude.{◌≡◌, ◌<◌, ◌^◌, true, List, length}
 use Rattle.php_classes.specs.declared.class.ClassEntry.{ClassEntry}
 use Rattle.php_classes.specs.declared.class.Lineage.{Lineage}
 use Rattle.php_classes.specs.Ancestors.{lineages_of}

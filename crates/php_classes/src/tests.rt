@@ -101,7 +101,7 @@ fn class(
     })
 }
 
-// The number 10 is that of the first class that is declared.
+// A class `Base` with a private property, a static one and a constant, and its `Child`: their numbers are 10 and 11.
 fn with_base(alloc: Global) -> Result<ClassTable, ClassFault> {
     let mut table = ClassTable::new(alloc)?;
     let mut base = class(alloc, ClassKind::Plain, b"Base", b"", b"")?;
@@ -116,6 +116,44 @@ fn with_base(alloc: Global) -> Result<ClassTable, ClassFault> {
     Ok(table)
 }
 
+fn is_place(found: Result<MemberRef, ClassFault>, class: u32, member: u32) -> bool {
+    match found {
+        Ok(place) => place.class == class && place.member == member,
+        Err(_) => false,
+    }
+}
+
+fn is_unknown(found: Result<MemberRef, ClassFault>) -> bool {
+    match found {
+        Err(ClassFault::Unknown) => true,
+        _ => false,
+    }
+}
+
+fn is_hidden(found: Result<MemberRef, ClassFault>) -> bool {
+    match found {
+        Err(ClassFault::Hidden) => true,
+        _ => false,
+    }
+}
+
+// What a declaration beside `Base` and `Child` is refused for.
+fn refusal(
+    alloc: Global,
+    kind: ClassKind,
+    name: &[u8],
+    parent: &[u8],
+    interface: &[u8],
+    member: Option<Member>,
+) -> Result<Option<ClassFault>, ClassFault> {
+    let mut table = with_base(alloc)?;
+    let mut decl = class(alloc, kind, name, parent, interface)?;
+    if let Some(member) = member {
+        decl.members.push(member)?;
+    }
+    Ok(table.declare(alloc, &decl).err())
+}
+
 #[test]
 fn the_throwables_are_there(rt: HostRuntime) -> Result<(), Fail> {
     let table = ClassTable::new(rt.alloc())?;
@@ -123,69 +161,99 @@ fn the_throwables_are_there(rt: HostRuntime) -> Result<(), Fail> {
     assert!(rt; table.class_named(b"InvalidArgumentException") == Some(5));
     assert!(rt; table.class_named(b"Child").is_none());
     assert!(rt; table.parent(5) == Some(3));
-    assert!(rt; table.instance_of(9, 2));
-    assert!(rt; table.instance_of(9, 0));
-    assert!(rt; !table.instance_of(9, 1));
-    let place = MemberRef {
-        class: 2,
-        member: 4,
-    };
-    assert!(rt; table.method(9, b"getline", None) == Ok(place));
-    assert!(rt; table.method(9, b"getTrace", None) == Err(ClassFault::Unknown));
-    assert!(rt; table.class(0).is_some());
+    assert!(rt; table.class(9).is_some());
     assert!(rt; table.class(10).is_none());
     Ok(())
 }
 
 #[test]
-fn members_are_found_and_hidden(rt: HostRuntime) -> Result<(), Fail> {
-    let table = with_base(rt.alloc())?;
-    assert!(rt; table.class_named(b"child") == Some(11));
-    let hidden = MemberRef {
-        class: 10,
-        member: 0,
-    };
-    assert!(rt; table.property(11, b"hidden", Some(10)) == Ok(hidden));
-    assert!(rt; table.property(11, b"hidden", Some(11)) == Err(ClassFault::Hidden));
-    assert!(rt; table.property(11, b"hidden", None) == Err(ClassFault::Hidden));
-    assert!(rt; table.property(11, b"shared", Some(10)) == Err(ClassFault::Unknown));
-    let shared = MemberRef {
-        class: 10,
-        member: 1,
-    };
-    assert!(rt; table.static_place(11, b"shared", Some(11)) == Ok(shared));
-    assert!(rt; table.static_place(10, b"shared", Some(11)) == Ok(shared));
-    assert!(rt; table.static_place(11, b"shared", Some(1)) == Err(ClassFault::Hidden));
-    let limit = MemberRef {
-        class: 10,
-        member: 2,
-    };
-    assert!(rt; table.constant(11, b"LIMIT") == Ok(limit));
-    assert!(rt; table.constant(11, b"limit") == Err(ClassFault::Unknown));
+fn throwables_are_instances(rt: HostRuntime) -> Result<(), Fail> {
+    let table = ClassTable::new(rt.alloc())?;
+    assert!(rt; table.instance_of(9, 2));
+    assert!(rt; table.instance_of(9, 0));
+    assert!(rt; !table.instance_of(9, 1));
+    assert!(rt; is_place(table.method(9, b"getline", None), 2, 4));
+    assert!(rt; is_unknown(table.method(9, b"getTrace", None)));
     Ok(())
 }
 
 #[test]
-fn declarations_are_refused_in_order(rt: HostRuntime) -> Result<(), Fail> {
+fn private_members_are_seen_in_their_class(rt: HostRuntime) -> Result<(), Fail> {
+    let table = with_base(rt.alloc())?;
+    assert!(rt; is_place(table.property(11, b"hidden", Some(10)), 10, 0));
+    assert!(rt; is_hidden(table.property(11, b"hidden", Some(11))));
+    assert!(rt; is_hidden(table.property(11, b"hidden", None)));
+    assert!(rt; is_unknown(table.property(11, b"shared", Some(10))));
+    Ok(())
+}
+
+#[test]
+fn static_properties_are_those_of_their_class(rt: HostRuntime) -> Result<(), Fail> {
+    let table = with_base(rt.alloc())?;
+    assert!(rt; is_place(table.static_place(11, b"shared", Some(11)), 10, 1));
+    assert!(rt; is_place(table.static_place(10, b"shared", Some(11)), 10, 1));
+    assert!(rt; is_hidden(table.static_place(11, b"shared", Some(1))));
+    Ok(())
+}
+
+#[test]
+fn constants_are_told_apart_by_case(rt: HostRuntime) -> Result<(), Fail> {
+    let table = with_base(rt.alloc())?;
+    assert!(rt; is_place(table.constant(11, b"LIMIT"), 10, 2));
+    assert!(rt; is_unknown(table.constant(11, b"limit")));
+    Ok(())
+}
+
+#[test]
+fn names_are_taken_once(rt: HostRuntime) -> Result<(), Fail> {
     let alloc = rt.alloc();
-    let mut table = with_base(alloc)?;
-    let taken = class(alloc, ClassKind::Plain, b"CHILD", b"nowhere", b"")?;
-    assert!(rt; table.declare(alloc, &taken) == Err(ClassFault::Redeclared));
-    let mut again = class(alloc, ClassKind::Plain, b"Again", b"child", b"nowhere")?;
-    again
-        .members
-        .push(property(alloc, Visibility::Public, false, b"hidden")?)?;
-    assert!(rt; table.declare(alloc, &again) == Err(ClassFault::Redeclared));
-    let mut told = class(alloc, ClassKind::Abstract, b"Told", b"TypeError", b"")?;
-    told.members.push(bodiless(alloc, b"GETMESSAGE")?)?;
-    assert!(rt; table.declare(alloc, &told) == Err(ClassFault::Redeclared));
-    let unknown = class(alloc, ClassKind::Plain, b"Some", b"child", b"nowhere")?;
-    assert!(rt; table.declare(alloc, &unknown) == Err(ClassFault::Unknown));
-    let lacking = class(alloc, ClassKind::Plain, b"Some", b"child", b"Throwable")?;
-    assert!(rt; table.declare(alloc, &lacking) == Err(ClassFault::Abstract));
-    let finished = class(alloc, ClassKind::Abstract, b"Some", b"child", b"Throwable")?;
-    assert!(rt; table.declare(alloc, &finished) == Ok(12));
-    assert!(rt; table.instance_of(12, 10));
-    assert!(rt; table.instance_of(12, 0));
+    let taken = refusal(alloc, ClassKind::Plain, b"CHILD", b"nowhere", b"", None)?;
+    assert!(rt; taken == Some(ClassFault::Redeclared));
+    let hidden = property(alloc, Visibility::Public, false, b"hidden")?;
+    let again = refusal(
+        alloc,
+        ClassKind::Plain,
+        b"Some",
+        b"child",
+        b"nowhere",
+        Some(hidden),
+    )?;
+    assert!(rt; again == Some(ClassFault::Redeclared));
+    let told = bodiless(alloc, b"GETMESSAGE")?;
+    let told = refusal(
+        alloc,
+        ClassKind::Abstract,
+        b"Some",
+        b"TypeError",
+        b"",
+        Some(told),
+    )?;
+    assert!(rt; told == Some(ClassFault::Redeclared));
+    Ok(())
+}
+
+#[test]
+fn interfaces_want_bodies(rt: HostRuntime) -> Result<(), Fail> {
+    let alloc = rt.alloc();
+    let unknown = refusal(alloc, ClassKind::Plain, b"Some", b"child", b"nowhere", None)?;
+    assert!(rt; unknown == Some(ClassFault::Unknown));
+    let lacking = refusal(
+        alloc,
+        ClassKind::Plain,
+        b"Some",
+        b"child",
+        b"Throwable",
+        None,
+    )?;
+    assert!(rt; lacking == Some(ClassFault::Abstract));
+    let finished = refusal(
+        alloc,
+        ClassKind::Abstract,
+        b"Some",
+        b"child",
+        b"Throwable",
+        None,
+    )?;
+    assert!(rt; finished.is_none());
     Ok(())
 }
