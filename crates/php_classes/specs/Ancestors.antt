@@ -1,5 +1,5 @@
 -- The ancestors of the classes of a table. A class's number is its place in the table, from 0. A class is built on those
--- before it alone, so no class is its own ancestor.
+-- before it alone, so each list is finite.
 use Rattle.std.specs.Prelude.{ℕ, Bool, ◌==◌, if◌then◌else◌, List, [], ◌∷◌, ◌++◌, length, slice_get, Option, Some, None}
 use Rattle.std.specs.Option.{unwrap_or}
 use Rattle.std.specs.List.{list_any}
