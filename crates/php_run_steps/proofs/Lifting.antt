@@ -16,7 +16,7 @@ use Rattle.php_statement_steps.specs.Standing.{Follows, FollowsTick, WritesAfter
 use Rattle.php_state.specs.Fits.{Keeps}
 use Rattle.php_state.specs.Views.{world_of}
 use Rattle.php_state.specs.declared.state.State.{State}
-use Rattle.php_run_steps.specs.Alike.{Goes, GoesAfterTick, RunAlike}
+use Rattle.php_stepping.specs.Alike.{Goes, GoesAfterTick, RunAlike}
 
 module _ (s : State) (before after : List Frame) (does : Naming → Does) (now : Now) where
   pub stepped : Steps before after does now → Goes s s before after does now

@@ -2,9 +2,7 @@
 #![tactic(auto)]
 
 mod nodes;
-mod stepped;
 mod turns;
 mod values;
 
 
-pub use stepped::Stepped;

@@ -4,7 +4,7 @@ ghost use Rattle.std.specs.Prelude.{◌≡◌, IfOk};
 ghost use Rattle.php_meaning.specs.Expressions.{read};
 ghost use Rattle.php_rest.specs.Named.{named};
 ghost use Rattle.php_state.specs.Fits.{Keeps};
-ghost use Rattle.php_run_steps.specs.Alike.{Goes};
+ghost use Rattle.php_stepping.specs.Alike.{Goes};
 
 use backward_list::Backward;
 use php_place_steps::begin_place;

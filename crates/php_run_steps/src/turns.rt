@@ -8,9 +8,9 @@ ghost use Rattle.php_rest.specs.Pairs.{pairs_left};
 ghost use Rattle.php_rest.specs.Rest.{each_left, loop_named};
 ghost use Rattle.php_rest.specs.Tails.{left_in};
 ghost use Rattle.php_state.specs.Fits.{Keeps};
-ghost use Rattle.php_run_steps.specs.Alike.{Goes, GoesAfterTick, GoesBy};
+ghost use Rattle.php_stepping.specs.Alike.{Goes, GoesAfterTick, GoesBy};
 
-use crate::stepped::Stepped;
+use php_stepping::Stepped;
 use backward_list::Backward;
 use php_rest::{Each, Ending, Frame, Loop, Now, Tail, Turns};
 use php_state::State;

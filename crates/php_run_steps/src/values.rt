@@ -5,7 +5,7 @@ ghost use Rattle.php_values.specs.Data.{data_of};
 ghost use Rattle.php_meaning.specs.Course.{Gives};
 ghost use Rattle.php_rest.specs.Rest.{after_expr, after_place, signal_of};
 ghost use Rattle.php_state.specs.Fits.{Keeps};
-ghost use Rattle.php_run_steps.specs.Alike.{Goes};
+ghost use Rattle.php_stepping.specs.Alike.{Goes};
 
 use backward_list::Backward;
 use php_place_steps::{resume_behind, resume_place};
