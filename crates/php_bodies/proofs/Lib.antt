@@ -4,3 +4,4 @@ pub mod Renamed
 pub mod PathTables
 pub mod Found
 pub mod Placeholders
+pub mod Looks

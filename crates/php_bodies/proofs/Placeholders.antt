@@ -1,5 +1,5 @@
 -- The part that statements are.
-use Rattle.std.proofs.Common.{◌≡◌, ℕ, zero, suc, ◌-◌, List, [], ◌∷◌, Bool, true, false, length, refl, sym, ap, subst, ◌∙◌, arith}
+use Rattle.std.proofs.Common.{◌≡◌, ℕ, zero, suc, ◌<◌, List, [], ◌∷◌, Bool, true, false, length, refl, sym, ap, subst, ◌∙◌, arith}
 use Rattle.std.specs.declared.option.Option.TheVariants.{Some, None}
 use Rattle.php_tree.specs.declared.stmt.Stmt.{Stmt}
 use Rattle.php_tree.specs.Parts.{without_bodies}
@@ -31,11 +31,15 @@ several : (x y : Statement (List ℕ)) (more : Statements (List ℕ)) → part_o
 several (s.removed what path name l) y more = refl
 several x y more = refl
 
--- statements that are not one
-pub not_one : (t : Naming) (ss : List Stmt) → (length ss ≡ 1 → ⊥) → part_of (block_named t ss) ≡ body (block_named t ss)
-not_one t [] other = refl
-not_one t (x ∷ []) other = absurd (other refl)
-not_one t (x ∷ y ∷ more) other = several _ _ _
+pub no_statement : (t : Naming) (ss : List Stmt) → ss ≡ [] → part_of (block_named t ss) ≡ body (block_named t ss)
+no_statement t ss e = ap (λ l. part_of (block_named t l)) e ∙ ap (λ l. body (block_named t l)) (sym e)
+
+more_behind : (t : Naming) (x : Stmt) (more : List Stmt) → 0 < length more → part_of (block_named t (x ∷ more)) ≡ body (block_named t (x ∷ more))
+more_behind t x [] some = absurd (omega arith)
+more_behind t x (y ∷ more) some = several (stmt_named t x) (stmt_named t y) (block_named t more)
+
+pub more_statements : (t : Naming) (ss : List Stmt) (x : Stmt) (more : List Stmt) → ss ≡ x ∷ more → 0 < length more → part_of (block_named t ss) ≡ body (block_named t ss)
+more_statements t ss x more e some = ap (λ l. part_of (block_named t l)) e ∙ more_behind t x more some ∙ ap (λ l. body (block_named t l)) (sym e)
 
 pub one_stub : (t : Naming) (ss : List Stmt) (x : Stmt) → ss ≡ x ∷ [] → is_removed (statement_of x) ≡ true → part_of (block_named t ss) ≡ stub
 one_stub t ss x e r = ap (λ l. part_of (block_named t l)) e ∙ a_stub (stmt_named t x) (same_kind t.name (statement_of x) ∙ r)

@@ -1,6 +1,6 @@
 // Placeholders.
 
-ghost use Rattle.std.specs.Prelude.{◌≡◌};
+ghost use Rattle.std.specs.Prelude.{◌≡◌, [], ◌∷◌};
 ghost use Rattle.std.specs.declared.option.Option.TheVariants.{Some};
 ghost use Rattle.app_load.specs.Parts.{part_of};
 ghost use Rattle.php_tree.specs.StatementOf.{statement_of};
@@ -9,6 +9,7 @@ ghost use Rattle.php_rest.specs.Named.{block_named};
 ghost use Rattle.php_bodies.specs.Look.{IsAt};
 ghost use Rattle.php_bodies.specs.Removed as spec;
 
+use php_rest::Tail;
 use php_tree::stmt::Stmt;
 use sqlite_items::Items;
 
@@ -44,15 +45,27 @@ fn is_removed(s: &Stmt) -> bool
     }
 }
 
+// Statements that are one, unless it is a placeholder.
+fn unless_stub<'t>(statements: &'t Items<Stmt>, first: &Stmt) -> Option<&'t Items<Stmt>>
+    ensures { statements.now ≡ first.now ∷ [] → (t : Naming) → IsAt t (Some (part_of (block_named t statements.now))) result }
+{
+    if is_removed(first) {
+        return None;
+    }
+    Some(statements)
+}
+
 /// The statements of a file or body, unless they are its placeholder.
 pub(crate) fn unless_removed(statements: &Items<Stmt>) -> Option<&Items<Stmt>>
     ensures { (t : Naming) → IsAt t (Some (part_of (block_named t statements.now))) result }
 {
-    if statements.len() != 1 {
-        return Some(statements);
+    match Tail::new(statements).cut() {
+        None => Some(statements),
+        Some((first, more)) => {
+            if more.is_empty() {
+                return unless_stub(statements, first);
+            }
+            Some(statements)
+        }
     }
-    if is_removed(&statements.as_slice()[0]) {
-        return None;
-    }
-    Some(statements)
 }
