@@ -1,6 +1,7 @@
 //! The machine: it takes one step after another, counts ticks, puts bytes out and enters files and functions, to the end of the run.
 #![tactic(auto)]
 
+mod advance;
 mod enter;
 mod events;
 mod machine;
