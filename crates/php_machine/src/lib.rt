@@ -6,5 +6,9 @@ mod enter;
 mod events;
 mod machine;
 mod one;
+mod opening;
+mod script;
 
 pub use machine::{Machine, Next};
+pub use opening::{Input, begin};
+pub use script::run_script;
