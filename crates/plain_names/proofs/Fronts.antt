@@ -1,5 +1,5 @@
--- The words at a front of code have no colon.
-use Rattle.std.proofs.Common.{◌≡◌, ℕ, suc, ◌+◌, ◌==◌, Bool, true, false, ◌||◌, [], ◌∷◌, refl, sym, ap, subst, ◌∙◌, take, length, true≢false, arith, slice_index, nat_lt, Option, Some, None}
+-- The words at a front of code are of word bytes, so they have no colon.
+use Rattle.std.proofs.Common.{◌≡◌, ℕ, suc, ◌+◌, ◌==◌, Bool, true, false, ◌||◌, ◌&&◌, List, [], ◌∷◌, refl, sym, ap, subst, ◌∙◌, take, length, true≢false, arith, slice_index, nat_lt, Option, Some, None}
 use Rattle.std.specs.Prelude.{⊤, cond, not, if◌then◌else◌}
 use Rattle.std.specs.Char.{is_ascii_digit}
 use Rattle.std.specs.List.{prefix_len, list_all}
@@ -147,19 +147,33 @@ word_byte b e = none (b == 58) refl
     none true same = absurd (true≢false (sym e ∙ ap (is_in class.Word) (eqb-true b 58 same)))
     none false same = refl
 
-word_bytes : (x : ℕ) (k : ℕ) (xs : Text) (c : Bool) → is_in class.Word x ≡ c → has_colon (take k xs) ≡ false → has_colon (take (cond c (1 + k) 0) (x ∷ xs)) ≡ false
+-- bytes of words alone
+abbrev pub AreWordBytes : List ℕ → Type 0
+AreWordBytes text = list_all (is_in class.Word) text ≡ true
+
+both_true : (c d : Bool) → c && d ≡ true → (c ≡ true) × (d ≡ true)
+both_true true d e = (refl, e)
+both_true false d e = absurd (true≢false (sym e))
+
+pub no_colon : (text : List ℕ) → AreWordBytes text → has_colon text ≡ false
+no_colon [] h = refl
+no_colon (x ∷ xs) h =
+    let parts = both_true (is_in class.Word x) (list_all (is_in class.Word) xs) h in
+    ap (λ b. b || has_colon xs) (word_byte x parts.0) ∙ no_colon xs parts.1
+
+word_bytes : (x : ℕ) (k : ℕ) (xs : Text) (c : Bool) → is_in class.Word x ≡ c → AreWordBytes (take k xs) → AreWordBytes (take (cond c (1 + k) 0) (x ∷ xs))
 word_bytes x k xs true e h =
     let more : suc k ≡ 1 + k = omega arith in
-    subst (λ m. has_colon (take m (x ∷ xs)) ≡ false) more (ap (λ b. b || has_colon (take k xs)) (word_byte x e) ∙ h)
+    subst (λ m. AreWordBytes (take m (x ∷ xs))) more (ap (λ b. b && list_all (is_in class.Word) (take k xs)) e ∙ h)
 word_bytes x k xs false e h = refl
 
-word_plain : (z : Text) → has_colon (take (prefix_len (is_in class.Word) z) z) ≡ false
+word_plain : (z : Text) → AreWordBytes (take (prefix_len (is_in class.Word) z) z)
 word_plain [] = refl
 word_plain (x ∷ xs) = word_bytes x (prefix_len (is_in class.Word) xs) xs (is_in class.Word x) refl (word_plain xs)
 
--- what is at a front has no colon, where it is a word
+-- what is at a front is of word bytes, where it is a word
 abbrev pub FrontBy : Text → Front → Type 0
-FrontBy z (front.Token simple.Word k) = has_colon (take k z) ≡ false
+FrontBy z (front.Token simple.Word k) = AreWordBytes (take k z)
 FrontBy z f = ⊤
 
 no_word_by : (z : Text) (f : Front) → is_word f ≡ false → FrontBy z f

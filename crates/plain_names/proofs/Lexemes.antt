@@ -23,6 +23,7 @@ use Rattle.php_lexemes.specs.Lexemes.{Open, closing, sign_in, embedded, lexeme_o
 use Rattle.php_parser.specs.Verdict.{IsFileTree}
 use Rattle.app_load.specs.Judged.{file_findings}
 use Rattle.plain_names.specs.Words.{has_colon, ArePlain}
+use Rattle.plain_names.proofs.Fronts.{no_colon}
 use Rattle.plain_names.proofs.Values.{PlainBy, LexemesPlain, reads_plain}
 use Rattle.plain_names.proofs.Tokens.{MarkBy, MarksPlain, words_plain}
 
@@ -54,7 +55,7 @@ lexeme_is : (names : List Name) (around : List Open) (m : Mark) (kind : lexer.Ki
 lexeme_is names around m kind.Inline p = tt {0}
 lexeme_is names around m kind.Echo p = tt {0}
 lexeme_is names around m kind.Var p = either (bytes_eq (drop 1 m.text) (codes "this")) (k.This, d.Only) (k.Var, d.Only) (drop 1 m.text) (tt {0}) (tt {0})
-lexeme_is names around m kind.Word p = word_is _ m.text p
+lexeme_is names around m kind.Word p = word_is _ m.text (no_colon m.text p)
 lexeme_is names around m (kind.Int n) p = tt {0}
 lexeme_is names around m (kind.Text bytes) p = tt {0}
 lexeme_is names around m (kind.Quote parts) p = either (embedded parts == 0) (k.Quote, d.Only) (k.QuoteOpen, d.Only) m.text (tt {0}) (tt {0})

@@ -1,5 +1,5 @@
--- The words among the tokens of a text have no colon.
-use Rattle.std.proofs.Common.{◌≡◌, ℕ, false, List, [], ◌∷◌, ◌++◌, take, drop}
+-- The words among the tokens of a text are of word bytes.
+use Rattle.std.proofs.Common.{ℕ, List, [], ◌∷◌, ◌++◌, take, drop}
 use Rattle.std.specs.Prelude.{⊤}
 use Rattle.php_lexer.specs.Bytes.{Text}
 use Rattle.php_lexer.specs.Marks.{Mark, mark_at}
@@ -12,11 +12,10 @@ use Rattle.php_lexer.specs.declared.front.Simple.TheVariants as simple
 use Rattle.php_lexer.specs.declared.kinds.Kind.{Kind}
 use Rattle.php_lexer.specs.declared.kinds.Kind.TheVariants as kind
 use Rattle.php_lexer.specs.declared.kinds.Part.{Part}
-use Rattle.plain_names.specs.Words.{has_colon}
-use Rattle.plain_names.proofs.Fronts.{FrontBy, inside_by}
+use Rattle.plain_names.proofs.Fronts.{AreWordBytes, FrontBy, inside_by}
 
 abbrev pub MarkBy : Kind → List ℕ → Type 0
-MarkBy kind.Word text = has_colon text ≡ false
+MarkBy kind.Word text = AreWordBytes text
 MarkBy _ text = ⊤
 
 abbrev pub MarksPlain : List Mark → Type 0

@@ -1,0 +1,9 @@
+use denote.Param.Send.{sendable}
+use Rattle.app_threads.proofs.Crossing.{app_send, app_sync}
+use Rattle.app_threads.proofs.app_for_threads.Goals as goal
+
+pub for_threads-requires-send-T : goal.for_threads-requires-send-T
+for_threads-requires-send-T c κs = search (sendable, app_send)
+
+pub for_threads-requires-sync-T : goal.for_threads-requires-sync-T
+for_threads-requires-sync-T c κs = search (sendable, app_sync)

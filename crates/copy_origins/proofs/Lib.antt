@@ -1,0 +1,10 @@
+pub mod Fronts
+pub mod Steps
+pub mod Marks
+pub mod Words
+pub mod Lexemes
+pub mod Reading
+pub mod Texts
+pub mod Values
+pub mod Whole
+pub mod Accepted

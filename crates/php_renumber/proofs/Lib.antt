@@ -1,0 +1,5 @@
+pub mod Each
+pub mod Sizes
+pub mod Lists
+pub mod Parts
+pub mod Arms
