@@ -84,4 +84,4 @@ file_at_path t path [] = refl
 file_at_path t path (f ∷ fs) =
     part_append (file path) (parts_of_file t f) (flat_map (parts_of_file t) fs)
     ∙ file_if t (bytes_eq f.path path) f (part_at (map (body_entry f.path) (bodies_in (tree_at t f))) (file path)) (part_at (flat_map (parts_of_file t) fs) (file path)) (found path (files_at fs))
-      (no_file f.path path (bodies_in (tree_at t f))) (file_at_path t path fs)
+    (no_file f.path path (bodies_in (tree_at t f))) (file_at_path t path fs)

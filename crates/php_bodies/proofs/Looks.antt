@@ -62,11 +62,11 @@ part_named t (Some ss) = ap (λ l. Some (part_of l)) (sym (all_without t.name (s
 function_body : (t : Naming) (name : List ℕ) (x : FileBodies) (y : Option (Bor (List Stmt))) → Holds x → found name x.bodies ≡ y → function_in_file t name (Some x.file.now) ≡ body_part t y
 function_body t name x y holds e =
     let inside : found name (bodies_in (statements_of x.file.now.statements)) ≡ option_map (λ ss. all_without_bodies (statements_of ss.now)) y =
-        sym (holds name) ∙ found_map (λ ss. all_without_bodies (statements_of ss.now)) name x.bodies ∙ ap (option_map (λ ss. all_without_bodies (statements_of ss.now))) e in
+    sym (holds name) ∙ found_map (λ ss. all_without_bodies (statements_of ss.now)) name x.bodies ∙ ap (option_map (λ ss. all_without_bodies (statements_of ss.now))) e in
     ap part_or_none (looked name (bodies_in (renamed_statements t.name (statements_of x.file.now.statements)))
-        ∙ ap (found name) (all_listed t.name (statements_of x.file.now.statements))
-        ∙ found_map (renamed_statements t.name) name (bodies_in (statements_of x.file.now.statements))
-        ∙ ap (option_map (renamed_statements t.name)) inside)
+    ∙ ap (found name) (all_listed t.name (statements_of x.file.now.statements))
+    ∙ found_map (renamed_statements t.name) name (bodies_in (statements_of x.file.now.statements))
+    ∙ ap (option_map (renamed_statements t.name)) inside)
     ∙ part_named t y
 
 -- ---- what is found

@@ -58,7 +58,11 @@ impl<'p> Bodies<'p> {
     }
 
     /// The statements that stand at an entry, if some do.
-    pub fn find(&self, alloc: Global, owner: Owner<'_>) -> Result<Option<&'p Items<Stmt>>, AllocError>
+    pub fn find(
+        &self,
+        alloc: Global,
+        owner: Owner<'_>,
+    ) -> Result<Option<&'p Items<Stmt>>, AllocError>
         ensures { IfOk result (λ found. (p : Program) (t : Naming) → AreBodies p self.now → IsAt t (look_in p t (entry_of owner.entry)) found) }
     {
         match owner {

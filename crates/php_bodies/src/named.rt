@@ -33,10 +33,7 @@ fn put_in<'t>(
 }
 
 // Bodies under their names, the first one where several have the same.
-fn by_name<'t>(
-    alloc: Global,
-    bodies: &[Body<'t>],
-) -> Result<NameTable<&'t Items<Stmt>>, AllocError>
+fn by_name<'t>(alloc: Global, bodies: &[Body<'t>]) -> Result<NameTable<&'t Items<Stmt>>, AllocError>
     ensures { IfOk result (λ table. FindsFirst table (bodies_of bodies.now)) }
 {
     let mut table = NameTable::new(alloc);

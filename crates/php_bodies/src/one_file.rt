@@ -18,7 +18,10 @@ pub struct FileBodies<'p> {
 }
 
 // The bodies of a file.
-pub(crate) fn file_bodies<'p>(alloc: Global, file: &'p ProgramFile) -> Result<FileBodies<'p>, AllocError>
+pub(crate) fn file_bodies<'p>(
+    alloc: Global,
+    file: &'p ProgramFile,
+) -> Result<FileBodies<'p>, AllocError>
     ensures same { IfOk result (λ bodies. bodies.file.now ≡ file.now) }
     ensures holds { IfOk result (λ bodies. Holds bodies) }
 {

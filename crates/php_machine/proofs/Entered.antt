@@ -3,7 +3,6 @@ use Rattle.std.proofs.Common.{◌≡◌, ℕ, List, sym, ap, subst, ◌∙◌}
 use Rattle.std.specs.Borrow.{Bor}
 use Rattle.std.specs.declared.option.Option.{Option}
 use Rattle.std.specs.declared.option.Option.TheVariants.{Some, None}
-use Rattle.app_load.specs.CopyParts.{IsGone}
 use Rattle.app_load.specs.Entries.{Entry, file}
 use Rattle.app_load.specs.Parts.{body}
 use Rattle.php_tree.specs.declared.stmt.Stmt.{Stmt}

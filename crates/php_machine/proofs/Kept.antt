@@ -1,7 +1,5 @@
 -- Steps that keep the program, and what numberings fit.
-use Rattle.std.proofs.Common.{◌≡◌, ℕ, List, slice_get, refl, sym, ap, subst, ◌∙◌}
-use Rattle.std.specs.declared.option.Option.TheVariants.{Some}
-use Rattle.php_tree.specs.declared.name.VarName.{VarName}
+use Rattle.std.proofs.Common.{◌≡◌, slice_get, refl, ap, subst, ◌∙◌}
 use Rattle.php_world.specs.Naming.{Naming}
 use Rattle.php_state.specs.Fits.{Fits, Keeps}
 use Rattle.php_state.specs.declared.program.Program.{Program}

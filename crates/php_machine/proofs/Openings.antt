@@ -8,7 +8,7 @@ use Rattle.app_load.specs.Entries.{file}
 use Rattle.php_tables.specs.Functions.{functions_of}
 use Rattle.php_tables.specs.declared.functions.Functions.{Functions}
 use Rattle.php_tree.specs.declared.name.VarName.{VarName}
-use Rattle.php_values.specs.Data.{data_of, array, array_of}
+use Rattle.php_values.specs.Data.{data_of}
 use Rattle.php_values.specs.declared.value.ArrayValue.{ArrayValue}
 use Rattle.php_values.specs.declared.value.Value.{Value}
 use Rattle.php_values.specs.declared.value.Value.TheVariants as value
@@ -19,9 +19,7 @@ use Rattle.php_meaning.specs.Calls.{assigned}
 use Rattle.php_meaning.specs.Course.{Course, Enters}
 use Rattle.php_meaning.specs.Run.{Look, run}
 use Rattle.php_meaning.specs.RunResult.{result_of}
-use Rattle.php_meaning.specs.Trace as meaning
 use Rattle.php_meaning.specs.Trace.{opening_variables, opening_world, trace_by, finish}
-use Rattle.php_meaning.specs.World.{World}
 use Rattle.php_rest.specs.Rest.{rest}
 use Rattle.php_rest.specs.Views.{function_named}
 use Rattle.php_rest.specs.declared.frame.Frame.{Frame}

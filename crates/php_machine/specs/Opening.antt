@@ -1,5 +1,5 @@
 -- What a run is given.
-use Rattle.std.specs.Prelude.{◌≡◌, ℕ, List, [], ◌∷◌, None}
+use Rattle.std.specs.Prelude.{ℕ, List, [], ◌∷◌, None}
 use Rattle.app_load.specs.Entries.{file}
 use Rattle.php_values.specs.Data.{data_of, array_of}
 use Rattle.php_values.specs.declared.value.ArrayValue.{ArrayValue}

@@ -35,7 +35,12 @@ impl<'a> Machine<'a> {
         ensures keeps { IfOk result (λ _. Keeps self.old.state self.new.state) }
     {
         self.tally.enter(Owner::File(path))?;
-        let refused = steps.hoist(alloc, path, statements.as_slice(), &mut self.state.functions)?;
+        let refused = steps.hoist(
+            alloc,
+            path,
+            statements.as_slice(),
+            &mut self.state.functions,
+        )?;
         match refused {
             None => Ok(Next::More(Now::OfFile(Tail::new(statements)))),
             Some(line) => Ok(Next::Over(End::Fatal(FatalName::Redeclared, path, line))),

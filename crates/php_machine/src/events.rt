@@ -33,7 +33,7 @@ fn behind_print<'a>(behind: Printed) -> Now<'a>
 
 impl<'a> Machine<'a> {
     /// Bytes are put out, where the output is not too long with them.
-    
+
     pub(crate) fn print(&mut self, text: ByteText, behind: Printed) -> Result<Next<'a>, AllocError>
         ensures law { IfOk result (λ next. (look : Naming → Look) → Continues look self.old self.new (now.Print text behind) next) }
         ensures keeps { IfOk result (λ _. Keeps self.old.state self.new.state) }
@@ -55,7 +55,7 @@ impl<'a> Machine<'a> {
     }
 
     /// What a step gave, its tick counted.
-    
+
     pub(crate) fn counted(&mut self, stepped: Stepped<'a>) -> Next<'a>
         ensures law { (look : Naming → Look) (was : Machine) (next : Now) → was.tally ≡ self.old.tally → GoesBy was.state self.old.state was.stack self.old.stack (λ t. next_of t next) stepped.entry → Continues look was self.new next result }
         ensures keeps { self.new.state ≡ self.old.state }

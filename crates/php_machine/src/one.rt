@@ -20,7 +20,12 @@ use std::alloc::{AllocError, Global};
 
 impl<'a> Machine<'a> {
     // A value is given to the newest frame; without one the run is done.
-    fn give<S: Steps>(&mut self, alloc: Global, steps: &S, value: Value) -> Result<Next<'a>, AllocError>
+    fn give<S: Steps>(
+        &mut self,
+        alloc: Global,
+        steps: &S,
+        value: Value,
+    ) -> Result<Next<'a>, AllocError>
         ensures law { IfOk result (λ next. (look : Naming → Look) → Continues look self.old self.new (now.Give value) next) }
         ensures keeps { IfOk result (λ _. Keeps self.old.state self.new.state) }
     {
@@ -34,7 +39,12 @@ impl<'a> Machine<'a> {
     }
 
     // The newest frame is told how a statement ended; without one the run is done.
-    fn end<S: Steps>(&mut self, alloc: Global, steps: &S, ending: Ending) -> Result<Next<'a>, AllocError>
+    fn end<S: Steps>(
+        &mut self,
+        alloc: Global,
+        steps: &S,
+        ending: Ending,
+    ) -> Result<Next<'a>, AllocError>
         ensures law { IfOk result (λ next. (look : Naming → Look) → Continues look self.old self.new (now.End ending) next) }
         ensures keeps { IfOk result (λ _. Keeps self.old.state self.new.state) }
     {
@@ -48,7 +58,12 @@ impl<'a> Machine<'a> {
     }
 
     // A step that is seen from outside by a tick at most.
-    fn step<S: Steps>(&mut self, alloc: Global, steps: &S, now: Now<'a>) -> Result<Next<'a>, AllocError>
+    fn step<S: Steps>(
+        &mut self,
+        alloc: Global,
+        steps: &S,
+        now: Now<'a>,
+    ) -> Result<Next<'a>, AllocError>
         ensures law { IfOk result (λ next. (look : Naming → Look) → Continues look self.old self.new now.entry next) }
         ensures keeps { IfOk result (λ _. Keeps self.old.state self.new.state) }
     {
