@@ -1,0 +1,7 @@
+pub mod Walks
+pub mod Tables
+pub mod Renamed
+pub mod PathTables
+pub mod Found
+pub mod Placeholders
+pub mod Looks

@@ -1,0 +1,4 @@
+pub mod Entered
+pub mod Ended
+pub mod Kept
+pub mod Openings
